@@ -1,0 +1,16 @@
+pub mod Options
+pub mod Each
+pub mod Calendar
+pub mod Published
+pub mod Loss
+pub mod Tiers
+pub mod Prices
+pub mod Cents
+pub mod Figures
+pub mod Keeps
+pub mod Ordinary
+pub mod Critical
+pub mod Postings
+pub mod Settling
+pub mod Closing
+pub mod Worked
