@@ -27,16 +27,4 @@ impl Inventory {
             None
         }
     }
-
-    pub fn storage(&self) -> u32
-        ensures { λ r. ⌜ r ≡ now (self .entry) .storage ⌝ }
-    {
-        self.storage
-    }
-
-    pub fn capacity(&self) -> u32
-        ensures { λ r. ⌜ r ≡ now (self .entry) .capacity ⌝ }
-    {
-        self.capacity
-    }
 }

@@ -27,12 +27,6 @@ impl Loss {
         }
     }
 
-    pub fn hundredths(&self) -> u16
-        ensures { λ r. ⌜ r ≡ now (self .entry) .hundredths ⌝ }
-    {
-        self.hundredths
-    }
-
     /// What is delivered of an account's lines, added up.
     pub fn delivered(&self, therms: u32) -> u32
         ensures value { λ r. ⌜ r ≡ after-loss (now (self .entry) .hundredths) therms ⌝ }
