@@ -8,4 +8,3 @@ pub mod Balance
 pub mod Fairness
 pub mod Posted
 pub mod RowBounds
-pub mod Settled

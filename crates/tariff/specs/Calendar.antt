@@ -22,6 +22,10 @@ of-thirty month = eqb month 4 || eqb month 6 || eqb month 9 || eqb month 11
 abbrev pub days-in : ℕ → ℕ → ℕ
 days-in year month = cond (eqb month 2) (cond (leap year) 29 28) (cond (of-thirty month) 30 31)
 
+-- from November to April the Company may declare Critical Days
+abbrev pub critical-season : ℕ → Bool
+critical-season month = leb month 4 || leb 11 month
+
 -- the month that follows, as year and month; none follows the last
 abbrev pub following : ℕ → ℕ → Option (ℕ × ℕ)
 following year month = cond (ltb month 12) (Some (year, month + 1)) (when (ltb year 2099) (year + 1, 1))

@@ -1,6 +1,8 @@
 -- The published tables: daily maxima and month-end bands, January to December.
+use mathlib.Core.Bool.{Bool, _&&_}
 use mathlib.Core.List.{List, [], _∷_}
-use Prim.Native.Nat.{ℕ, _-_, _*_, _/_, _≤_}
+use Prim.Native.Nat.{ℕ, _-_, _*_, _/_}
+use lib.Dec.{leb}
 use lib.ListN.{getD}
 use Rattle.tariff.specs.declared.published.MonthMaxima.{MonthMaxima}
 use Rattle.tariff.specs.declared.published.MonthBand.{MonthBand}
@@ -31,16 +33,16 @@ maxima-in month = getD daily-maxima (month - 1) (maxima 0 0)
 abbrev pub band-in : ℕ → MonthBand
 band-in month = getD month-end-bands (month - 1) (band 0 0)
 
--- what no row of the tables passes
-abbrev pub Maxima-bounds : MonthMaxima → Type 0
-Maxima-bounds row = (row .injection ≤ 70) × (row .withdrawal ≤ 100)
+-- the bounds of the tables' rows
+abbrev pub maxima-bounded : MonthMaxima → Bool
+maxima-bounded row = leb (row .injection) 70 && leb (row .withdrawal) 100
 
-abbrev pub Band-bounds : MonthBand → Type 0
-Band-bounds row = (row .lowest ≤ row .highest) × (row .lowest ≤ 85) × (row .highest ≤ 100)
+abbrev pub band-bounded : MonthBand → Bool
+band-bounded row = leb (row .lowest) (row .highest) && leb (row .lowest) 85 && leb (row .highest) 100
 
--- hundredths of a percent of capacity, in therms, rounded down
+-- hundredths of a percent of therms, rounded down
 abbrev pub share : ℕ → ℕ → ℕ
-share capacity hundredths = capacity * hundredths / 10000
+share therms hundredths = therms * hundredths / 10000
 
 abbrev pub percent : ℕ → ℕ → ℕ
 percent capacity points = capacity * points / 100

@@ -3,7 +3,7 @@ ghost use mathlib.Core.Path.{_≡_};
 ghost use Prim.Native.Nat.{ℕ, _≤_};
 ghost use Rattle.std.specs.Options.{mapped};
 ghost use Rattle.tariff.specs.Options.{when};
-ghost use Rattle.tariff.specs.Calendar.{in-calendar, days-in, following, date, date-in};
+ghost use Rattle.tariff.specs.Calendar.{in-calendar, days-in, critical-season, following, date, date-in};
 
 pub const FIRST_YEAR: u16 = 2024;
 
@@ -20,8 +20,8 @@ pub struct Date {
 /// A month of the calendar.
 #[derive(Clone, Copy)]
 pub struct Month {
-    year: u16,
-    number: u8,
+    pub(crate) year: u16,
+    pub(crate) number: u8,
     ghost year_low: { 2024 ≤ year },
     ghost year_high: { year ≤ 2099 },
     ghost number_low: { 1 ≤ number },
@@ -40,17 +40,11 @@ impl Month {
         }
     }
 
-    pub fn year(&self) -> u16
-        ensures { λ r. ⌜ r ≡ now (self .entry) .year ⌝ }
+    /// The year, and the month's number from 1 for January to 12 for December.
+    pub fn year_and_number(&self) -> (u16, u8)
+        ensures { λ r. ⌜ r ≡ (now (self .entry) .year, now (self .entry) .number) ⌝ }
     {
-        self.year
-    }
-
-    /// From 1 for January to 12 for December.
-    pub fn number(&self) -> u8
-        ensures { λ r. ⌜ r ≡ now (self .entry) .number ⌝ }
-    {
-        self.number
+        (self.year, self.number)
     }
 
     /// How many days the month has: the number of its last day.
@@ -62,6 +56,13 @@ impl Month {
             4 | 6 | 9 | 11 => 30,
             _ => 31,
         }
+    }
+
+    /// Whether the Company may declare Critical Days in the month: from November to April.
+    pub fn in_critical_season(&self) -> bool
+        ensures { λ r. ⌜ r ≡ critical-season (now (self .entry) .number) ⌝ }
+    {
+        self.number <= 4 || self.number >= 11
     }
 
     /// The following month; none follows December 2099.

@@ -5,6 +5,7 @@ ghost use lib.Dec.{leb};
 ghost use Rattle.std.specs.Options.{mapped};
 ghost use Rattle.tariff.specs.Options.{when};
 ghost use Rattle.tariff.specs.Loss.{most-loss, after-loss};
+use crate::published::share_of;
 
 pub const MAX_LOSS: u16 = 2_000;
 
@@ -32,6 +33,6 @@ impl Loss {
         ensures value { λ r. ⌜ r ≡ after-loss (now (self .entry) .hundredths) therms ⌝ }
         ensures high { λ r. ⌜ r ≤ therms ⌝ }
     {
-        (therms as u64 * (10_000 - self.hundredths as u64) / 10_000) as u32
+        share_of(therms, 10_000 - self.hundredths)
     }
 }

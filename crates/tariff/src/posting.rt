@@ -4,6 +4,7 @@ ghost use mathlib.Core.Bool.{true};
 ghost use Prim.Native.Nat.{_-_, _≤_};
 ghost use lib.ListN.{set};
 ghost use Rattle.tariff.specs.Each.{each};
+ghost use Rattle.tariff.specs.Figures.{with-maxima};
 ghost use Rattle.tariff.specs.Postings.{posting, unposted, no-postings, in-capacity, postable, post-on, posting-on, as-posted};
 use crate::answer::Answer;
 use crate::day_rule::DayRule;
@@ -55,6 +56,19 @@ impl Postings {
         ensures { λ _. ⌜ now (self .exit) .table ≡ set (now (self .entry) .table) (day - 1) posting ⌝ }
     {
         self.table[day as usize - 1] = posting;
+    }
+}
+
+impl Question {
+    /// The same question with other maxima.
+    pub(crate) fn with_maxima(&self, max_injection: u32, max_withdrawal: u32) -> Question
+        requires { ⌜ «max_injection» ≤ now self .figures .capacity ⌝ ∗ ⌜ «max_withdrawal» ≤ now self .figures .capacity ⌝ }
+        ensures { λ r. ⌜ r .figures ≡ with-maxima «max_injection» «max_withdrawal» (now (self .entry) .figures) ⌝ }
+    {
+        let mut figures = self.figures;
+        figures.max_injection = max_injection;
+        figures.max_withdrawal = max_withdrawal;
+        Question { figures }
     }
 }
 

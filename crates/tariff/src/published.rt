@@ -1,7 +1,9 @@
 //! The published daily maxima and month-end bands.
 ghost use mathlib.Core.Path.{_≡_};
+ghost use mathlib.Core.Bool.{true};
 ghost use Prim.Native.Nat.{_≤_};
-ghost use Rattle.tariff.specs.Published.{maxima-in, band-in, maxima-of, band-of, share, percent, Maxima-bounds, Band-bounds};
+ghost use Rattle.tariff.specs.Each.{each};
+ghost use Rattle.tariff.specs.Published.{daily-maxima, month-end-bands, maxima-bounded, band-bounded, maxima-in, band-in, maxima-of, band-of, share, percent};
 use crate::calendar::Month;
 
 /// A month's published daily maxima, in hundredths of a percent of capacity.
@@ -134,13 +136,13 @@ const MONTH_END_BANDS: [MonthBand; 12] = [
     },
 ];
 
-/// Hundredths of a percent of capacity, in therms, rounded down.
-pub(crate) fn share_of(capacity: u32, hundredths: u16) -> u32
+/// Hundredths of a percent of a number of therms, rounded down.
+pub(crate) fn share_of(therms: u32, hundredths: u16) -> u32
     requires { ⌜ hundredths ≤ 10000 ⌝ }
-    ensures value { λ r. ⌜ r ≡ share capacity hundredths ⌝ }
-    ensures high { λ r. ⌜ r ≤ capacity ⌝ }
+    ensures value { λ r. ⌜ r ≡ share therms hundredths ⌝ }
+    ensures high { λ r. ⌜ r ≤ therms ⌝ }
 {
-    (capacity as u64 * hundredths as u64 / 10_000) as u32
+    (therms as u64 * hundredths as u64 / 10_000) as u32
 }
 
 /// A percentage of capacity, in therms, rounded down.
@@ -152,19 +154,31 @@ pub(crate) fn percent_of(capacity: u32, points: u8) -> u32
     (capacity as u64 * points as u64 / 100) as u32
 }
 
+fn daily_maxima() -> &'static [MonthMaxima; 12]
+    ensures table { λ r. ⌜ now r ≡ daily-maxima ⌝ }
+    ensures bounds { λ r. ⌜ each maxima-bounded (now r) ≡ true ⌝ }
+{
+    &DAILY_MAXIMA
+}
+
+fn month_end_bands() -> &'static [MonthBand; 12]
+    ensures table { λ r. ⌜ now r ≡ month-end-bands ⌝ }
+    ensures bounds { λ r. ⌜ each band-bounded (now r) ≡ true ⌝ }
+{
+    &MONTH_END_BANDS
+}
+
 impl Month {
     fn maxima_row(&self) -> MonthMaxima
-        ensures value { λ r. ⌜ r ≡ maxima-in (now (self .entry) .number) ⌝ }
-        ensures bounds { λ r. ⌜ Maxima-bounds r ⌝ }
+        ensures { λ r. ⌜ r ≡ maxima-in (now (self .entry) .number) ⌝ }
     {
-        DAILY_MAXIMA[self.number() as usize - 1]
+        daily_maxima()[self.number as usize - 1]
     }
 
     fn band_row(&self) -> MonthBand
-        ensures value { λ r. ⌜ r ≡ band-in (now (self .entry) .number) ⌝ }
-        ensures bounds { λ r. ⌜ Band-bounds r ⌝ }
+        ensures { λ r. ⌜ r ≡ band-in (now (self .entry) .number) ⌝ }
     {
-        MONTH_END_BANDS[self.number() as usize - 1]
+        month_end_bands()[self.number as usize - 1]
     }
 
     /// The month's published maxima of a day, for an account of that capacity.

@@ -2,8 +2,7 @@
 ghost use mathlib.Core.Path.{_≡_};
 ghost use mathlib.Core.Bool.{true};
 ghost use Rattle.std.specs.Options.{mapped};
-ghost use Prim.Native.Nat.{_≤_};
-ghost use Rattle.tariff.specs.Figures.{fair, fairly, with-maxima};
+ghost use Rattle.tariff.specs.Figures.{fair, fairly};
 
 pub const LAST_DAY: u8 = 31;
 
@@ -27,7 +26,7 @@ pub struct Figures {
 /// Figures within their limits.
 #[derive(Clone, Copy)]
 pub struct Question {
-    figures: Figures,
+    pub(crate) figures: Figures,
     ghost fair: { fair figures ≡ true },
 }
 
@@ -55,16 +54,5 @@ impl Question {
         ensures { λ r. ⌜ r ≡ now (self .entry) .figures ⌝ }
     {
         self.figures
-    }
-
-    /// The same question with other maxima.
-    pub(crate) fn with_maxima(&self, max_injection: u32, max_withdrawal: u32) -> Question
-        requires { ⌜ «max_injection» ≤ now self .figures .capacity ⌝ ∗ ⌜ «max_withdrawal» ≤ now self .figures .capacity ⌝ }
-        ensures { λ r. ⌜ r .figures ≡ with-maxima «max_injection» «max_withdrawal» (now (self .entry) .figures) ⌝ }
-    {
-        let mut figures = self.figures;
-        figures.max_injection = max_injection;
-        figures.max_withdrawal = max_withdrawal;
-        Question { figures }
     }
 }

@@ -1,6 +1,5 @@
-use mathlib.Core.Path.{_≡_, ap, sym, _∙_}
+use mathlib.Core.Path.{_≡_, ap, _∙_}
 use mathlib.Core.Bool.{true}
-use Prim.Native.Nat.{_-_}
 use native.Mathlib.Omega.{arith}
 use Rattle.std.proofs.shelf.Ways.{tells}
 use Rattle.tariff.specs.Each.{each}
@@ -13,4 +12,4 @@ pub ghost-self : need.ghost-self
 ghost-self g c =
     let p = posting (c .args .max-injection) (c .args .max-withdrawal) in
     let within : in-capacity p ≡ true = grind (arith, tells) in
-    (ap (each in-capacity) (c .set .ensures) ∙ each-set in-capacity (c .args .self .now .postings .table) (c .args .day - 1) p within (c .args .self .now .limits), tt)
+    (ap (each in-capacity) (c .set .ensures) ∙ each-set in-capacity (c .args .self .now .postings .table) _ p within (c .args .self .now .limits), tt)
