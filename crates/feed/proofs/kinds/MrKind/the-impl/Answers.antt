@@ -1,0 +1,11 @@
+use mathlib.Core.List.{[]}
+use Rattle.feed.specs.Numbers.{num4, four}
+use Rattle.feed.proofs.Spread.{spread-at, four-num4}
+use Rattle.feed.proofs.kinds.MrKind.the-impl.Needs as need
+
+pub writes-law : need.writes-law
+writes-law bs bytes size within =
+    let e0 = four-num4 bs bytes 0 (four (num4 bs 4) []) in
+    let e4 = four-num4 bs bytes 4 [] in
+    let s = spread-at 8 bs size in
+    cc

@@ -1,0 +1,5 @@
+pub mod Numbers
+pub mod Marks
+pub mod Fields
+pub mod Records
+pub mod Faults
