@@ -4,3 +4,6 @@ pub mod Reallocations
 pub mod ReadLines
 pub mod Checked
 pub mod Parts
+pub mod Alone
+pub mod Divisions
+pub mod CutSteps

@@ -3,3 +3,4 @@ pub mod Marks
 pub mod Fields
 pub mod Records
 pub mod Faults
+pub mod Cuts

@@ -4,8 +4,12 @@ use mathlib.Core.List.{List, [], _∷_}
 use Prim.Native.Nat.{ℕ, _+_}
 use lib.Dec.{ltb, eqb}
 use lib.ListN.{length, getD, take, drop}
+use Rattle.std.specs.declared.option.Option.{Option}
+use Rattle.std.specs.declared.option.Option.the-variants.{Some, None}
+use Rattle.std.specs.Options.{mapped}
 use Rattle.std.specs.declared.result.Result.{Result}
 use Rattle.std.specs.declared.result.Result.the-variants.{Ok, Err}
+use Rattle.tariff.specs.Options.{when}
 use Rattle.calls.specs.declared.fields.Call.{Call}
 use Rattle.calls.specs.declared.fields.Call.the-variants.{BeginMonth, OpenAccount, MoveAccount, SetGasCost, SetPrice, BeginDay, Nominate, EndDay, Reallocate, Read, Settle, Close, Post}
 use Rattle.calls.specs.Limits.{month-begin-within, opening-within, move-within, gas-cost-within, price-within, day-begin-within, nomination-within, day-end-within, reallocation-within, reading-within, settle-within, closing-within, posting-within}
@@ -14,24 +18,39 @@ use Rattle.feed.specs.declared.fault.FeedRefusal.the-variants.{Cut, UnknownMar
 use Rattle.feed.specs.Marks.{mark-mb, mark-ac, mark-mv, mark-gc, mark-pr, mark-bd, mark-nm, mark-ed, mark-rl, mark-mr, mark-sd, mark-cm, mark-ps}
 use Rattle.feed.specs.Fields.{month-begin-of, opening-of, move-of, gas-cost-of, price-of, day-begin-of, nomination-of, day-end-of, reallocation-of, reading-of, settle-of, closing-of, posting-of, lines-tail}
 
--- what follows a mark whose kind has this head, tail, limits, fields and call; the length counts the mark
-abbrev pub read-kind : {F : Type 0} → ℕ → (List ℕ → ℕ) → (F → Bool) → (List ℕ → F) → (F → Call) → List ℕ → Result (Call × ℕ) FeedRefusal
-read-kind head tail limits fields call bs =
-    let size = head + tail (take head bs) in
-    cond (ltb (length bs) head) (Err Cut)
-    (cond (ltb (length bs) size) (Err Cut)
-    (cond (limits (fields (take size bs))) (Ok (call (fields (take size bs)), size + 2)) (Err OutsideLimits)))
-
--- a kind of record: its mark, and what bytes behind that mark come to
+-- a kind of record: its mark, the bytes of its head, how many follow a head, and the call that they all say; none outside the limits
 pub record Form : Type 0 where
   pub mark : List ℕ
-  pub reads : List ℕ → Result (Call × ℕ) FeedRefusal
+  pub head : ℕ
+  pub tail : List ℕ → ℕ
+  pub says : List ℕ → Option Call
+
+abbrev pub form : {F : Type 0} → List ℕ → ℕ → (List ℕ → ℕ) → (F → Bool) → (List ℕ → F) → (F → Call) → Form
+form mark head tail limits fields call = record {
+  mark = mark;
+  head = head;
+  tail = tail;
+  says = λ bs. mapped call (when (limits (fields bs)) (fields bs));
+}
+
+-- a record's bytes behind its mark are as many as its head tells
+abbrev pub size : Form → List ℕ → ℕ
+size f bs = f .head + f .tail (take (f .head) bs)
+
+-- the call and the bytes that it took, its mark included
+abbrev pub told : ℕ → Option Call → Result (Call × ℕ) FeedRefusal
+told n None = Err OutsideLimits
+told n (Some c) = Ok (c, n + 2)
+
+-- what follows a mark of that kind
+abbrev pub read-form : Form → List ℕ → Result (Call × ℕ) FeedRefusal
+read-form f bs =
+    cond (ltb (length bs) (f .head)) (Err Cut)
+    (cond (ltb (length bs) (size f bs)) (Err Cut)
+    (told (size f bs) (f .says (take (size f bs) bs))))
 
 abbrev pub no-tail : List ℕ → ℕ
 no-tail head = 0
-
-abbrev pub form : {F : Type 0} → List ℕ → ℕ → (List ℕ → ℕ) → (F → Bool) → (List ℕ → F) → (F → Call) → Form
-form mark head tail limits fields call = record { mark = mark; reads = read-kind head tail limits fields call }
 
 -- every kind: mark, bytes of the head, bytes behind the head, limits, fields, call
 abbrev pub forms : List Form
@@ -57,7 +76,7 @@ marked a b mark = eqb a (getD mark 0 0) && eqb b (getD mark 1 0)
 -- the first kind that has the two bytes for its mark reads what follows
 abbrev pub read-by : List Form → ℕ → ℕ → List ℕ → Result (Call × ℕ) FeedRefusal
 read-by [] a b rest = Err UnknownMark
-read-by (f ∷ fs) a b rest = cond (marked a b (f .mark)) (f .reads rest) (read-by fs a b rest)
+read-by (f ∷ fs) a b rest = cond (marked a b (f .mark)) (read-form f rest) (read-by fs a b rest)
 
 -- the first record of a feed, and the bytes that it takes
 abbrev pub first-record : List ℕ → Result (Call × ℕ) FeedRefusal

@@ -3,8 +3,11 @@ ghost use mathlib.Core.Path.{_≡_};
 ghost use Prim.Native.Nat.{ℕ, _+_, _≤_};
 ghost use lib.ListN.{length};
 ghost use Rattle.std.specs.Vec.{made};
-ghost use Rattle.feed.specs.Records.{read-kind, first-record};
+ghost use Rattle.feed.specs.Cuts.{Counted};
+ghost use Rattle.feed.specs.Records.{form, read-form, first-record};
+use crate::fault::Fault;
 use crate::fault::FeedRefusal;
+use crate::fault::Layer;
 use crate::kinds::Ac;
 use crate::kinds::AcKind;
 use crate::kinds::Bd;
@@ -36,7 +39,7 @@ use calls::fields::Call;
 
 /// What follows a mark of the kind `K`; the length counts the mark.
 fn read_kind<K: Kind>(rest: &[u8]) -> Result<(Call, usize), FeedRefusal>
-    ensures value { λ r. ⌜ r ≡ read-kind heads tails within decode calls (now (rest .entry)) ⌝ }
+    ensures value { λ r. ⌜ r ≡ read-form (form marks heads tails within decode calls) (now (rest .entry)) ⌝ }
     ensures bound { λ r. ⌜ made r (λ p. (2 ≤ p .1) × (p .1 ≤ length (now (rest .entry)) + 2)) ⌝ }
 {
     let head = K::head_len();
@@ -75,4 +78,28 @@ pub fn read_record(feed: &[u8]) -> Result<(Call, usize), FeedRefusal>
         [_, _, ..] => Err(FeedRefusal::UnknownMark),
         _ => Err(FeedRefusal::Cut),
     }
+}
+
+/// How many records a whole feed has, or its first fault.
+pub fn count_records(feed: &[u8]) -> Result<usize, Fault>
+    ensures { λ r. ⌜ Counted (now (feed .entry)) r ⌝ }
+{
+    let mut offset = 0;
+    let mut count = 0;
+    while offset < feed.len() {
+        match read_record(&feed[offset..]) {
+            Ok((call, length)) => {
+                offset += length;
+                count += 1;
+            }
+            Err(cause) => {
+                return Err(Fault {
+                    ordinal: count + 1,
+                    offset,
+                    layer: Layer::Feed(cause),
+                });
+            }
+        }
+    }
+    Ok(count)
 }
