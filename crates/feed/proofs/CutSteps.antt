@@ -38,16 +38,14 @@ module _ (feed : List ℕ) (k i : ℕ) (done : List Call) (behind : Behind feed 
       subst whole (sym (append-assoc done (c ∷ []) cs))
       (behind (c ∷ cs) f (takes k i (drop i feed) c n cs f (left h) (sym (r ∙ ap first-record part)) (subst rest (sym (drop-drop n i feed)) cut)))
 
-  counted : (cs : List Call) (f : Option Fault) → cs ≡ [] → Cuts k i (drop i feed) cs f → Counted feed (outcome done f)
-  counted cs f none cut =
-      let whole : List Call → Type 0 = λ xs. Cuts 1 0 feed xs f in
-      let all : Cuts 1 0 feed done f = subst whole (ap (λ xs. done ++ xs) none ∙ append-nil done) (behind cs f cut) in
-      record { calls = done; fault = f; cut = all; divided = divided all; count = refl }
+  whole : (f : Option Fault) → Cuts k i (drop i feed) [] f → Cuts 1 0 feed done f
+  whole f cut = let family : List Call → Type 0 = λ xs. Cuts 1 0 feed xs f in subst family (append-nil done) (behind [] f cut)
 
-  pub stopped : (e : FeedRefusal) → i < length feed → Err e ≡ first-record (take (length feed - i) (drop i feed)) → Counted feed (Err (feed-fault k i e))
-  stopped e h r = counted [] (Some (feed-fault k i e)) refl (stops k i (drop i feed) e (left h) (sym (r ∙ ap first-record part)))
+  pub stopped : (e : FeedRefusal) → i < length feed → Err e ≡ first-record (take (length feed - i) (drop i feed)) → Cuts 1 0 feed done (Some (feed-fault k i e))
+  stopped e h r = whole (Some (feed-fault k i e)) (stops k i (drop i feed) e (left h) (sym (r ∙ ap first-record part)))
 
-  pub ended : length feed ≤ i → Counted feed (Ok (length done))
-  ended h =
-      let rest : List ℕ → Type 0 = λ bs. Cuts k i bs [] None in
-      counted [] None refl (subst rest (sym (drop-all i feed h)) (ends k i))
+  pub ended : length feed ≤ i → Cuts 1 0 feed done None
+  ended h = let rest : List ℕ → Type 0 = λ bs. Cuts k i bs [] None in whole None (subst rest (sym (drop-all i feed h)) (ends k i))
+
+pub counted : (feed : List ℕ) (done : List Call) (f : Option Fault) → Cuts 1 0 feed done f → Counted feed (outcome done f)
+counted feed done f cut = record { calls = done; fault = f; cut = cut; divided = divided cut; count = refl }

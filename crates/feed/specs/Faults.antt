@@ -1,10 +1,12 @@
 -- Every fault's layer, number and named value.
-use mathlib.Core.List.{List}
+use mathlib.Core.List.{List, _++_}
 use Prim.Native.Nat.{ℕ}
 use lib.Chars.{codes}
+use Rattle.std.specs.Written.{decimal}
 use Rattle.calls.specs.Refusals.{number-of, named-of, posting-number}
 use Rattle.feed.specs.declared.fault.FeedRefusal.{FeedRefusal}
 use Rattle.feed.specs.declared.fault.FeedRefusal.the-variants.{Cut, UnknownMark, OutsideLimits}
+use Rattle.feed.specs.declared.fault.Fault.{Fault}
 use Rattle.feed.specs.declared.fault.Layer.{Layer}
 use Rattle.feed.specs.declared.fault.Layer.the-variants.{Feed, Posting, Book}
 
@@ -28,3 +30,9 @@ abbrev pub layer-named : Layer → ℕ
 layer-named (Feed cause) = 0
 layer-named (Posting cause) = 0
 layer-named (Book cause) = named-of cause
+
+-- a fault's line, without its newline
+abbrev pub fault-text : Fault → List ℕ
+fault-text f =
+    codes "F " ++ (layer-name (f .layer) ++ (codes " " ++ (decimal (layer-number (f .layer)) ++ (codes " " ++ (decimal (layer-named (f .layer))
+    ++ (codes " " ++ (decimal (f .ordinal) ++ (codes " " ++ decimal (f .offset)))))))))

@@ -1,8 +1,10 @@
 //! Where and why a feed stopped: a fault holds its layer, and the layer its own cause.
 ghost use mathlib.Core.Path.{_≡_};
-ghost use Rattle.feed.specs.Faults.{layer-name, layer-number, layer-named};
+ghost use Rattle.feed.specs.Faults.{layer-name, layer-number, layer-named, fault-text};
+ghost use Rattle.std.specs.declared.option.Option.the-variants.{Some};
 use calls::refusal::PostingRefusal;
 use calls::refusal::Refusal;
+use std::fmt;
 
 /// Why bytes are no record.
 #[derive(Clone, Copy, PartialEq, Eq, Debug)]
@@ -59,5 +61,19 @@ impl Layer {
             Layer::Book(cause) => cause.named(),
             _ => 0,
         }
+    }
+}
+
+/// `F`, layer, number, named value, ordinal and offset.
+pub impl fmt::Display for Fault as FaultDisplay {
+    ghost shown = { λ fault. Some (fault-text fault) };
+
+    fn fmt<W: fmt::Write>(&self, f: &mut fmt::Formatter<W>) -> fmt::Result {
+        let name = self.layer.name();
+        let number = self.layer.number();
+        let named = self.layer.named();
+        let ordinal = self.ordinal;
+        let offset = self.offset;
+        write!(f, "F {name} {number} {named} {ordinal} {offset}")
     }
 }
