@@ -1,4 +1,6 @@
-//! Tests at both ends of the tariff's limits. Expected values are worked by hand.
+//! Tests at both ends of every limit. Expected values are worked by hand.
 
 #[cfg(test)]
-mod tests;
+mod feed_edges;
+#[cfg(test)]
+mod tariff_edges;
