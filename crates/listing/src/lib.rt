@@ -8,11 +8,13 @@ ghost use lib.ListN.{length};
 ghost use Rattle.std.specs.declared.option.Option.the-variants.{Some};
 ghost use Rattle.std.specs.Of.String.{string-bytes};
 ghost use Rattle.std.specs.Vec.{made};
-ghost use Rattle.calls.specs.declared.fields.Call.the-variants.{Reallocate};
-ghost use Rattle.feed.specs.Marks.{mark-rl};
+ghost use Rattle.calls.specs.declared.fields.Call.the-variants.{Nominate, Post, Reallocate};
+ghost use Rattle.feed.specs.Marks.{mark-nm, mark-ps, mark-rl};
 ghost use Rattle.listing.specs.Listing.{lines-figures, mark-of, figures-of, figures-text, call-text, ending-text, Listed};
 use calls::fields::Call;
 use calls::fields::Line;
+use calls::fields::Nomination;
+use calls::fields::PostedMaxima;
 use calls::fields::Reallocation;
 use feed::fault::Fault;
 use feed::fault::FaultDisplay;
@@ -75,6 +77,30 @@ fn push_reallocation(heap: Global, out: &mut String, call: &Reallocation) -> Res
     Ok(())
 }
 
+fn push_nomination(heap: Global, out: &mut String, call: &Nomination) -> Result<(), AllocError>
+    ensures { λ r. ⌜ made r (λ _. string-bytes (now (out .exit)) ≡ string-bytes (now (out .entry)) ++ (mark-nm ++ figures-text (figures-of (Nominate (now (call .entry)))))) ⌝ }
+{
+    let line = call.line;
+    let figures = [
+        line.account,
+        line.pipeline as u32,
+        line.therms,
+        call.minute as u32,
+    ];
+    push_marked(heap, out, "NM", &figures)
+}
+
+fn push_posting(heap: Global, out: &mut String, call: &PostedMaxima) -> Result<(), AllocError>
+    ensures { λ r. ⌜ made r (λ _. string-bytes (now (out .exit)) ≡ string-bytes (now (out .entry)) ++ (mark-ps ++ figures-text (figures-of (Post (now (call .entry)))))) ⌝ }
+{
+    let figures = [
+        call.day as u32,
+        call.max_injection as u32,
+        call.max_withdrawal as u32,
+    ];
+    push_marked(heap, out, "PS", &figures)
+}
+
 /// Adds a call's mark and fields.
 fn push_fields(heap: Global, out: &mut String, call: &Call) -> Result<(), AllocError>
     ensures { λ r. ⌜ made r (λ _. string-bytes (now (out .exit)) ≡ string-bytes (now (out .entry)) ++ (mark-of (now (call .entry)) ++ figures-text (figures-of (now (call .entry))))) ⌝ }
@@ -96,32 +122,13 @@ fn push_fields(heap: Global, out: &mut String, call: &Call) -> Result<(), AllocE
         Call::SetGasCost(c) => push_marked(heap, out, "GC", &[c.gas_cost]),
         Call::SetPrice(c) => push_marked(heap, out, "PR", &[c.day as u32, c.index, c.market]),
         Call::BeginDay(c) => push_marked(heap, out, "BD", &[c.day as u32, c.kind as u32]),
-        Call::Nominate(c) => push_marked(
-            heap,
-            out,
-            "NM",
-            &[
-                c.line.account,
-                c.line.pipeline as u32,
-                c.line.therms,
-                c.minute as u32,
-            ],
-        ),
+        Call::Nominate(c) => push_nomination(heap, out, c),
         Call::EndDay(_) => push_marked(heap, out, "ED", &[]),
         Call::Reallocate(c) => push_reallocation(heap, out, c),
         Call::Read(c) => push_marked(heap, out, "MR", &[c.account, c.therms]),
         Call::Settle(_) => push_marked(heap, out, "SD", &[]),
         Call::Close(_) => push_marked(heap, out, "CM", &[]),
-        Call::Post(c) => push_marked(
-            heap,
-            out,
-            "PS",
-            &[
-                c.day as u32,
-                c.max_injection as u32,
-                c.max_withdrawal as u32,
-            ],
-        ),
+        Call::Post(c) => push_posting(heap, out, c),
     }
 }
 
