@@ -2,5 +2,6 @@
 //!
 //! Nothing here reads bytes or keeps anything: the feed makes these calls, the book decides them.
 pub mod fields;
+pub mod keys;
 pub mod limits;
 pub mod refusal;

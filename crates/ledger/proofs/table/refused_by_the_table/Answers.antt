@@ -1,0 +1,5 @@
+use Rattle.ledger.proofs.Refusing.{by-the-table}
+use Rattle.ledger.proofs.table.refused_by_the_table.Needs as need
+
+pub returns : need.returns
+returns c = by-the-table
