@@ -90,10 +90,40 @@ either-own n true o h = h
 either-own n false o h = tt
 
 owns : (s : State) (c : Call) → All Own (table s c)
-owns s c =
-    (refuse-own 3 _ _ refl, (refuse-own 4 _ _ refl, (naming-own 5 _ (λ n. refl) _, (given-own s c, (refuse-own 7 _ _ refl, (refuse-own 8 _ _ refl,
-    (refuse-own 9 _ _ refl, (refuse-own 10 _ _ refl, (naming-own 11 _ (λ l. refl) _, (naming-own 12 _ (λ p. refl) _, (refuse-own 13 _ _ refl,
-    (either-own 14 (settles c) _ (naming-own 14 _ (λ a. refl) (unread (s .accounts))), tt))))))))))))
+owns s c = (
+  refuse-own 3 _ _ refl,
+  (
+    refuse-own 4 _ _ refl,
+    (
+      naming-own 5 _ (λ n. refl) _,
+      (
+        given-own s c,
+        (
+          refuse-own 7 _ _ refl,
+          (
+            refuse-own 8 _ _ refl,
+            (
+              refuse-own 9 _ _ refl,
+              (
+                refuse-own 10 _ _ refl,
+                (
+                  naming-own 11 _ (λ l. refl) _,
+                  (
+                    naming-own 12 _ (λ p. refl) _,
+                    (
+                      refuse-own 13 _ _ refl,
+                      (either-own 14 (settles c) _ (naming-own 14 _ (λ a. refl) (unread (s .accounts))), tt),
+                    ),
+                  ),
+                ),
+              ),
+            ),
+          ),
+        ),
+      ),
+    ),
+  ),
+)
 
 rises : (s : State) (c : Call) → Rises 0 (table s c)
 rises s c = (lit< tt, (lit< tt, (lit< tt, (lit< tt, (lit< tt, (lit< tt, (lit< tt, (lit< tt, (lit< tt, (lit< tt, (lit< tt, (lit< tt, tt))))))))))))

@@ -50,20 +50,24 @@ morning =
     ∷ BeginDay (record { day = 1; kind = 0 })
     ∷ nomination 7001 2000 600
     ∷ nomination 7002 1000 780
-    ∷ EndDay (record { })
+    ∷ EndDay (record {})
     ∷ []
 
 abbrev pub shift : Call
 shift = reallocation 810 (line 7001 1 1800 ∷ line 7002 1 1200 ∷ [])
 
 abbrev pub evening : List Call
-evening = shift ∷ reading 7001 500 ∷ reading 7002 1600 ∷ Settle (record { }) ∷ []
+evening = shift ∷ reading 7001 500 ∷ reading 7002 1600 ∷ Settle (record {}) ∷ []
 
 abbrev pub start : State
 start = fresh-book 16 128 31 512
 
 abbrev pub ended : State
 ended = run published start morning
+
+-- the day's rows
+abbrev pub written : List Row
+written = run published ended evening .rows
 
 abbrev pub tiers : ℕ → ℕ → ℕ → RowTiers
 tiers a b c = record { first = a; second = b; third = c }
@@ -88,11 +92,11 @@ day-row account delivered used injected withdrawn bought sold storage cents = re
 
 pub record Example-day : Type 0 where
   -- the whole day, to its rows
-  pub rows : run published ended evening .rows
+  pub rows : written
       ≡ day-row 7001 1773 500 700 0 (tiers 0 0 0) (tiers 70 70 433) 40700 (negℤ (pos 10900))
       ∷ day-row 7002 1182 1600 0 100 (tiers 15 15 288) (tiers 0 0 0) 0 (pos 13064)
       ∷ []
   -- a shift before its window, one that moves a pipeline's total, and a settling without a reading
   pub too-early : answered ended (reallocation 809 (line 7001 1 1800 ∷ line 7002 1 1200 ∷ [])) ≡ Err OutsideWindow
   pub total-moved : answered ended (reallocation 810 (line 7001 1 1800 ∷ line 7002 1 1201 ∷ [])) ≡ Err (TotalChanged 1)
-  pub unread : answered (run published ended (reading 7002 1600 ∷ [])) (Settle (record { })) ≡ Err (ReadingMissing 7001)
+  pub unread : answered (run published ended (reading 7002 1600 ∷ [])) (Settle (record {})) ≡ Err (ReadingMissing 7001)

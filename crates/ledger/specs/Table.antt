@@ -352,3 +352,7 @@ pub record By-the-table (s : State) (c : Call) : Type 0 where
 
 abbrev pub Refused-by-the-table : Type 0
 Refused-by-the-table = (s : State) (c : Call) → By-the-table s c
+
+-- how many numbers the table has
+abbrev pub Numbered : ℕ → Type 0
+Numbered n = (s : State) (c : Call) → length (table s c) ≡ n
