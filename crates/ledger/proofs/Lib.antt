@@ -1,1 +1,12 @@
 pub mod Refusing
+pub mod Found
+pub mod Totals
+pub mod Lines
+pub mod Accounts
+pub mod Accepted
+pub mod Reallocation
+pub mod Invariant
+pub mod Written
+pub mod Days
+pub mod Steps
+pub mod Balance

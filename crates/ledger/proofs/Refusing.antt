@@ -1,12 +1,12 @@
 -- The first condition that holds is that of the smallest number.
-use mathlib.Core.Path.{_≡_, refl, sym, ap, _∙_}
-use mathlib.Core.Bool.{Bool, true, false, cond, not}
+use mathlib.Core.Path.{_≡_, refl, ap, _∙_}
+use mathlib.Core.Bool.{Bool, true, false, cond}
 use mathlib.Core.List.{List, [], _∷_}
-use Prim.Native.Nat.{ℕ, zero, suc, _+_, _<_, _≤_}
+use Prim.Native.Nat.{ℕ, zero, suc, _<_}
 use native.Mathlib.Omega.{arith}
 use lib.Dec.{lit<}
 use lib.ListN.{length}
-use Rattle.std.specs.shelf.Lists.{All, Has, At}
+use Rattle.std.specs.shelf.Lists.{All, At}
 use Rattle.std.proofs.shelf.Elements.{all-weaker}
 use Rattle.std.specs.declared.option.Option.{Option}
 use Rattle.std.specs.declared.option.Option.the-variants.{Some, None}
@@ -15,7 +15,7 @@ use Rattle.calls.specs.declared.fields.Call.the-variants.{BeginMonth, OpenAccou
 use Rattle.calls.specs.declared.refusal.Refusal.{Refusal}
 use Rattle.calls.specs.Refusals.{number-of}
 use Rattle.ledger.specs.State.{State}
-use Rattle.ledger.specs.Table.{Condition, refuse-if, refuse-naming, Entry, table, first, or-else, verdict, Holding, Own, Smallest, By-the-table, Refused-by-the-table, given-already, settles, unread}
+use Rattle.ledger.specs.Table.{Condition, refuse-if, refuse-naming, Entry, table, first, or-else, Holding, Own, Smallest, Refused-by-the-table, given-already, settles, unread}
 
 -- the numbers rise
 abbrev Rises : ℕ → List Entry → Type 0

@@ -14,7 +14,6 @@ use Rattle.calls.specs.declared.fields.Call.{Call}
 use Rattle.calls.specs.declared.fields.Call.the-variants.{BeginMonth, OpenAccount, MoveAccount, SetGasCost, SetPrice, BeginDay, Nominate, EndDay, Reallocate, Read, Settle, Close, Post}
 use Rattle.calls.specs.Limits.{named-lines}
 use Rattle.ledger.specs.declared.records.Account.{Account}
-use Rattle.ledger.specs.declared.records.Row.{Row}
 use Rattle.ledger.specs.declared.records.DayKind.{DayKind}
 use Rattle.ledger.specs.declared.records.DayKind.the-variants.{Ordinary, Critical}
 use Rattle.ledger.specs.declared.records.Stage.{Stage}

@@ -1,6 +1,9 @@
+pub mod Sums
 pub mod State
 pub mod Table
 pub mod Rows
 pub mod Effects
 pub mod Runs
 pub mod Example
+pub mod Count
+pub mod Claim

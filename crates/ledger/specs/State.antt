@@ -1,6 +1,6 @@
 -- What the book holds, and what can be read off it.
-use mathlib.Core.Bool.{Bool, true, false, cond, _&&_}
-use mathlib.Core.List.{List, [], _∷_}
+use mathlib.Core.Bool.{Bool, cond, _&&_}
+use mathlib.Core.List.{List}
 use Prim.Native.Nat.{ℕ, _+_, _*_, min}
 use lib.Dec.{eqb}
 use Rattle.std.specs.Options.{isSome}
@@ -13,6 +13,7 @@ use Rattle.calls.specs.declared.fields.PriceQuote.{PriceQuote}
 use Rattle.ledger.specs.declared.records.Account.{Account}
 use Rattle.ledger.specs.declared.records.Row.{Row}
 use Rattle.ledger.specs.declared.records.Stage.{Stage}
+use Rattle.ledger.specs.Sums.{added}
 
 -- the month's figures and the tables, each with the room that was lent for it
 pub record State : Type 0 where
@@ -74,3 +75,28 @@ supplier-of n accounts = shown (λ a. a .supplier) (account-at n accounts)
 
 abbrev pub therms-at : ℕ → ℕ → List Line → ℕ
 therms-at account pipeline lines = shown (λ l. l .therms) (line-at account pipeline lines)
+
+abbrev pub storage-of : ℕ → List Account → ℕ
+storage-of n accounts = shown (λ a. a .storage) (account-at n accounts)
+
+abbrev pub amount : Option ℕ → ℕ
+amount o = shown (λ n. n) o
+
+abbrev pub reading-of : ℕ → List Account → ℕ
+reading-of n accounts = shown (λ a. amount (a .reading)) (account-at n accounts)
+
+-- the therms of the lines that a test of account and pipeline picks
+abbrev pub picked : (ℕ → ℕ → Bool) → Line → ℕ
+picked test l = cond (test (l .account) (l .pipeline)) (l .therms) 0
+
+abbrev pub standing : (ℕ → ℕ → Bool) → List Line → ℕ
+standing test lines = added (picked test) lines
+
+abbrev pub of-account : ℕ → ℕ → ℕ → Bool
+of-account n account pipeline = eqb account n
+
+abbrev pub on-pipeline : ℕ → ℕ → ℕ → Bool
+on-pipeline p account pipeline = eqb pipeline p
+
+abbrev pub of-supplier : (ℕ → ℕ) → ℕ → ℕ → ℕ → ℕ → Bool
+of-supplier supplier s p account pipeline = eqb (supplier account) s && eqb pipeline p

@@ -2,7 +2,7 @@
 use mathlib.Core.Path.{_≡_}
 use mathlib.Core.Bool.{Bool, true, false, cond, not, _&&_, _||_}
 use mathlib.Core.List.{List, [], _∷_, map}
-use Prim.Native.Nat.{ℕ, zero, suc, _+_, _*_, _<_, _≤_}
+use Prim.Native.Nat.{ℕ, _+_, _<_}
 use lib.Dec.{eqb, ltb, leb}
 use lib.ListN.{length}
 use Rattle.std.specs.shelf.Lists.{All, Has}
@@ -18,10 +18,9 @@ use Rattle.calls.specs.declared.refusal.Refusal.the-variants.{OutsideLimits, Wr
 use Rattle.calls.specs.Limits.{within, between, named-lines}
 use Rattle.calls.specs.Refusals.{number-of}
 use Rattle.ledger.specs.declared.records.Account.{Account}
-use Rattle.ledger.specs.declared.records.DayKind.{DayKind}
 use Rattle.ledger.specs.declared.records.Stage.{Stage}
 use Rattle.ledger.specs.declared.records.Stage.the-variants.{Unopened, Between, Nominating, Ended, Closed}
-use Rattle.ledger.specs.State.{State, most-accounts, most-rows, days-of, known, account-at, price-on, line-at, line-key, supplier-of, therms-at, shown}
+use Rattle.ledger.specs.State.{State, most-accounts, most-rows, days-of, known, account-at, price-on, line-at, line-key, supplier-of, therms-at, standing, on-pipeline}
 
 -- a condition that holds names its refusal
 abbrev pub Condition : Type 0
@@ -254,17 +253,13 @@ shifted-by (Settle c) = 0
 shifted-by (Close c) = 0
 shifted-by (Post c) = 0
 
--- therms on one pipeline of the lines that are named: as they would stand, and as they stand
-abbrev pub new-on : ℕ → List Line → ℕ
-new-on p [] = 0
-new-on p (l ∷ ls) = cond (eqb (l .pipeline) p) (l .therms) 0 + new-on p ls
+-- a line with the therms that stand at its account and pipeline
+abbrev pub as-it-stands : List Line → Line → Line
+as-it-stands lines l = record { account = l .account; pipeline = l .pipeline; therms = therms-at (l .account) (l .pipeline) lines }
 
-abbrev pub old-on : ℕ → List Line → List Line → ℕ
-old-on p lines [] = 0
-old-on p lines (l ∷ ls) = cond (eqb (l .pipeline) p) (therms-at (l .account) (l .pipeline) lines) 0 + old-on p lines ls
-
+-- the named lines come to another total on a pipeline than what stands in their places
 abbrev pub changes : State → List Line → ℕ → Bool
-changes s ls p = not (eqb (new-on p ls) (old-on p (s .lines) ls))
+changes s ls p = not (eqb (standing (on-pipeline p) ls) (standing (on-pipeline p) (map (as-it-stands (s .lines)) ls)))
 
 abbrev pub pipelines : List ℕ
 pipelines = 1 ∷ 2 ∷ 3 ∷ 4 ∷ 5 ∷ 6 ∷ 7 ∷ 8 ∷ []

@@ -2,5 +2,6 @@
 //!
 //! Nothing here keeps anything: the definitions in specs/ say what the book will be held to.
 pub mod example;
+pub mod law;
 pub mod records;
 pub mod table;

@@ -5,4 +5,4 @@ use Rattle.ledger.proofs.example.example_day.Needs as need
 -- the definitions compute it
 pub returns : need.returns
 unfolding rounded
-returns c = record { count = refl; day = record { rows = refl; too-early = refl; total-moved = refl; unread = refl } }
+returns c = record { owed = refl; day = record { rows = refl; too-early = refl; total-moved = refl; unread = refl } }
