@@ -10,3 +10,5 @@ pub mod Written
 pub mod Days
 pub mod Steps
 pub mod Balance
+pub mod Rooms
+pub mod Safety

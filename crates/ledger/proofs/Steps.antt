@@ -90,15 +90,15 @@ unmet : (b : Bool) (n : ℕ) → refuse-if b (AlreadyOpen n) ≡ None → b ≡ 
 unmet true n h = absurd (let bad : _≡_ {A = ℕ} 0 1 = cc in omega arith)
 unmet false n h = refl
 
-unnamed : (o : Option Line) → refuse-naming (λ l. LineRepeated (l .account)) o ≡ None → o ≡ None
+pub unnamed : (o : Option Line) → refuse-naming (λ l. LineRepeated (l .account)) o ≡ None → o ≡ None
 unnamed None h = refl
 unnamed (Some l) h = absurd (let bad : _≡_ {A = ℕ} 0 1 = cc in omega arith)
 
-each-all : {X : Type 0} (f : X → Bool) (xs : List X) → each f xs ≡ true → All (λ x. f x ≡ true) xs
+pub each-all : {X : Type 0} (f : X → Bool) (xs : List X) → each f xs ≡ true → All (λ x. f x ≡ true) xs
 each-all f [] h = tt
 each-all f (x ∷ xs) h = let both = and-parts (f x) (each f xs) h in (both .0, each-all f xs (both .1))
 
-named-within : (c : Reallocation) → within (Reallocate c) ≡ true → each line-within (named-lines c) ≡ true
+pub named-within : (c : Reallocation) → within (Reallocate c) ≡ true → each line-within (named-lines c) ≡ true
 named-within c h = and-parts _ (each line-within (named-lines c)) (and-parts _ (each is-blank (places-past c)) h .0) .1
 
 -- no line lies on pipeline 0

@@ -7,3 +7,4 @@ pub mod Runs
 pub mod Example
 pub mod Count
 pub mod Claim
+pub mod Safety

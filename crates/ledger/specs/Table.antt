@@ -143,12 +143,13 @@ given-already s (Settle c) = None
 given-already s (Close c) = None
 given-already s (Post c) = None
 
-abbrev pub is-absent : State → Line → Bool
-is-absent s l = not (isSome (line-at (l .account) (l .pipeline) (s .lines)))
+-- how many lines do not stand yet
+abbrev pub is-absent : List Line → Line → Bool
+is-absent lines l = not (isSome (line-at (l .account) (l .pipeline) lines))
 
-abbrev pub count-absent : State → List Line → ℕ
-count-absent s [] = 0
-count-absent s (l ∷ ls) = cond (is-absent s l) 1 0 + count-absent s ls
+abbrev pub count-absent : List Line → List Line → ℕ
+count-absent lines [] = 0
+count-absent lines (l ∷ ls) = cond (is-absent lines l) 1 0 + count-absent lines ls
 
 -- so many more find no room; what adds nothing always does
 abbrev pub no-room : ℕ → ℕ → ℕ → Bool
@@ -162,9 +163,9 @@ no-space s (MoveAccount c) = false
 no-space s (SetGasCost c) = false
 no-space s (SetPrice c) = no-room (length (s .prices)) 1 (s .price-room)
 no-space s (BeginDay c) = false
-no-space s (Nominate c) = no-room (length (s .lines)) (count-absent s (c .line ∷ [])) (s .line-room)
+no-space s (Nominate c) = no-room (length (s .lines)) (count-absent (s .lines) (c .line ∷ [])) (s .line-room)
 no-space s (EndDay c) = false
-no-space s (Reallocate c) = no-room (length (s .lines)) (count-absent s (named-lines c)) (s .line-room)
+no-space s (Reallocate c) = no-room (length (s .lines)) (count-absent (s .lines) (named-lines c)) (s .line-room)
 no-space s (Read c) = false
 no-space s (Settle c) = no-room (length (s .rows)) (length (s .accounts)) (most-rows s)
 no-space s (Close c) = no-room (length (s .rows)) (length (s .accounts)) (most-rows s)
