@@ -1,4 +1,7 @@
 //! Lists a feed: reads the first 65,536 bytes of standard input and prints a line for each record.
+
+#![tactic(auto)]
+
 ghost use Rattle.std.specs.Prelude.{◌≤◌, length, IfOk};
 
 use listing::listing;

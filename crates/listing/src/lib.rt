@@ -1,6 +1,9 @@
 //! A feed in words: a line for each record, with its mark and its fields in decimal, and then the fault's line.
 //!
 //! It reads what a feed says, and does none of it.
+
+#![tactic(auto)]
+
 ghost use Rattle.std.specs.Prelude.{◌≡◌, ℕ, ◌++◌, length, IfOk, Some, string_bytes, OnOk};
 ghost use Rattle.calls.specs.declared.fields.Call.TheVariants.{Nominate, Post, Reallocate};
 ghost use Rattle.feed.specs.Marks.{mark_nm, mark_ps, mark_rl};

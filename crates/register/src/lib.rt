@@ -2,5 +2,8 @@
 //!
 //! An inner crate: its methods may ask for the tables' invariant (no more held than there is room, keys rising), which the book
 //! carries. It knows nothing of gas.
+
+#![tactic(auto)]
+
 pub mod keyed;
 pub mod table;

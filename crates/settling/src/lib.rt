@@ -3,6 +3,9 @@
 //!
 //! An inner crate: its functions may ask for what the book keeps true of its tables. A day and a close change accounts in their place
 //! and write a row for each; the others only look. None refuses, or touches lines, prices or the month.
+
+#![tactic(auto)]
+
 pub mod close;
 pub mod day;
 pub(crate) mod known;

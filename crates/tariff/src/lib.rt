@@ -2,6 +2,9 @@
 //!
 //! From lines to cents: `Loss` takes off the loss, `Month` knows the day's maxima and the month-end band, a `DayRule`
 //! places the day's therms, `settle_day` and `close_month` price them. Nothing here knows of books, feeds or memory.
+
+#![tactic(auto)]
+
 pub mod answer;
 pub mod calendar;
 pub mod cents;
