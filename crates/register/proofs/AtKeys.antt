@@ -2,7 +2,7 @@
 use Rattle.std.proofs.Common.{◌≡◌, ℕ, zero, suc, ◌+◌, ◌<◌, ◌≤◌, Bool, true, false, cond, ◌&&◌, eqb, ltb, List, [], ◌∷◌, ◌++◌, length, get_or, take, drop, set, Some, None, Option, sym, refl, ap, ◌∙◌, arith}
 use Rattle.std.specs.List.{insert, AllByRecursion as All}
 use Rattle.std.proofs.ByRecursion.{All-weaker}
-use Rattle.std.proofs.lemmas.Bool.{and_from, and_parts, eq-eqb, ne_eqb, lt-ltb, le-ltb, eqb-true, eqb-false, ltb-true, ltb-false, cond-true, cond_false, cond_both}
+use Rattle.std.proofs.lemmas.Bool.{and_from, and_parts, eq-eqb, ne_eqb, lt-ltb, le-ltb, eqb-true, eqb-false, ltb-true, ltb-false, cond-true, cond-false, cond_both}
 use Rattle.register.specs.Keys.{at, put, all_above, rising}
 use Rattle.register.proofs.Rising.{above_all, all_above_from}
 
@@ -21,33 +21,33 @@ module _ {X : Type 0} (key : X → ℕ) where
   at_found (x ∷ xs) zero d r lt = cond-true _ _ _ (eq-eqb (key x) (key x) refl)
   at_found (x ∷ xs) (suc m) d r lt =
       let up = past x xs m d r (omega arith) in
-      cond_false _ _ _ (ne_eqb (key (get_or xs m d)) (key x) (λ e. omega arith)) ∙ cond_false _ _ _ (le-ltb (key (get_or xs m d)) (key x) (omega arith))
+      cond-false _ _ _ (ne_eqb (key (get_or xs m d)) (key x) (λ e. omega arith)) ∙ cond-false _ _ _ (le-ltb (key (get_or xs m d)) (key x) (omega arith))
       ∙ at_found xs m d (and_parts (all_above key (key x) xs) (rising key xs) r).1 (omega arith)
 
   pub at_missing : (k : ℕ) (xs : List X) (m : ℕ) → All (λ x. key x < k) (take m xs) → All (λ x. k < key x) (drop m xs) → at key k xs ≡ None
   at_missing k [] m a b = refl
   at_missing k (x ∷ xs) zero a b =
-      let up = b.0 in cond_false _ _ _ (ne_eqb k (key x) (λ e. omega arith)) ∙ cond-true _ _ _ (lt-ltb k (key x) up)
+      let up = b.0 in cond-false _ _ _ (ne_eqb k (key x) (λ e. omega arith)) ∙ cond-true _ _ _ (lt-ltb k (key x) up)
   at_missing k (x ∷ xs) (suc m) a b =
       let down = a.0 in
-      cond_false _ _ _ (ne_eqb k (key x) (λ e. omega arith)) ∙ cond_false _ _ _ (le-ltb k (key x) (omega arith)) ∙ at_missing k xs m a.1 b
+      cond-false _ _ _ (ne_eqb k (key x) (λ e. omega arith)) ∙ cond-false _ _ _ (le-ltb k (key x) (omega arith)) ∙ at_missing k xs m a.1 b
 
   pub put_found : (x : X) (xs : List X) (m : ℕ) → rising key xs ≡ true → m < length xs → key (get_or xs m x) ≡ key x → put key x xs ≡ set xs m x
   put_found x [] m r lt e = absurd (omega arith)
   put_found x (y ∷ ys) zero r lt e = cond-true _ _ _ (eq-eqb (key x) (key y) (sym e))
   put_found x (y ∷ ys) (suc m) r lt e =
       let up = past y ys m x r (omega arith) in
-      cond_false _ _ _ (ne_eqb (key x) (key y) (λ q. omega arith)) ∙ cond_false _ _ _ (le-ltb (key x) (key y) (omega arith))
+      cond-false _ _ _ (ne_eqb (key x) (key y) (λ q. omega arith)) ∙ cond-false _ _ _ (le-ltb (key x) (key y) (omega arith))
       ∙ ap (λ l. y ∷ l) (put_found x ys m (and_parts (all_above key (key y) ys) (rising key ys) r).1 (omega arith) e)
 
   pub put_missing : (x : X) (xs : List X) (m : ℕ) → m ≤ length xs → All (λ y. key y < key x) (take m xs) → All (λ y. key x < key y) (drop m xs) → put key x xs ≡ insert xs m x
   put_missing x [] zero le a b = refl
   put_missing x [] (suc m) le a b = absurd (omega arith)
   put_missing x (y ∷ ys) zero le a b =
-      let up = b.0 in cond_false _ _ _ (ne_eqb (key x) (key y) (λ e. omega arith)) ∙ cond-true _ _ _ (lt-ltb (key x) (key y) up)
+      let up = b.0 in cond-false _ _ _ (ne_eqb (key x) (key y) (λ e. omega arith)) ∙ cond-true _ _ _ (lt-ltb (key x) (key y) up)
   put_missing x (y ∷ ys) (suc m) le a b =
       let down = a.0 in
-      cond_false _ _ _ (ne_eqb (key x) (key y) (λ e. omega arith)) ∙ cond_false _ _ _ (le-ltb (key x) (key y) (omega arith))
+      cond-false _ _ _ (ne_eqb (key x) (key y) (λ e. omega arith)) ∙ cond-false _ _ _ (le-ltb (key x) (key y) (omega arith))
       ∙ ap (λ l. y ∷ l) (put_missing x ys m (omega arith) a.1 b)
 
   above_put : (k : ℕ) (x : X) (xs : List X) → k < key x → all_above key k xs ≡ true → all_above key k (put key x xs) ≡ true

@@ -26,13 +26,13 @@ returns-in-Ok g c =
       rises = ap (rising key) after ∙ rising_put key item xs c.requires.rises;
     }
 
-pub returns-then-not-has-room : goal.returns-then-not-has-room
-returns-then-not-has-room g c =
+pub returns-then-not-has_room : goal.returns-then-not-has_room
+returns-then-not-has_room g c =
     let key = g.T.Keyed.key in
     let xs = held c.args.self.now in
     let missing = c.in-Err.ensures in
     let gone = ap (λ k. at key k xs) (sym c.key.ensures) ∙ at_missing key c.key.result xs c.in-Err.place missing.1 missing.2 in
-    let full = leb-false (length xs + 1) (room c.args.self.now) (sym c.if-not-has-room.ensures) in
+    let full = leb-false (length xs + 1) (room c.args.self.now) (sym c.if-not-has_room.ensures) in
     record {
       answer = sym (or_from (is_some (at key (key c.args.item) xs)) (ltb (length xs) (room c.args.self.now)) (ap is_some gone) (le-ltb (length xs) (room c.args.self.now) (omega arith)));
       after = refl;
@@ -41,8 +41,8 @@ returns-then-not-has-room g c =
       rises = c.requires.rises;
     }
 
-pub returns-else-not-has-room : goal.returns-else-not-has-room
-returns-else-not-has-room g c =
+pub returns-else-not-has_room : goal.returns-else-not-has_room
+returns-else-not-has_room g c =
     let key = g.T.Keyed.key in
     let xs = held c.args.self.now in
     let item = c.args.item in
@@ -51,7 +51,7 @@ returns-else-not-has-room g c =
     let below : ℕ → Type 0 = λ k. All (λ x. key x < k) (take place xs) in
     let above : ℕ → Type 0 = λ k. All (λ x. k < key x) (drop place xs) in
     let put_is = put_missing key item xs place missing.0 (subst below c.key.ensures missing.1) (subst above c.key.ensures missing.2) in
-    let free = leb-true (length xs + 1) (room c.args.self.now) (sym c.if-not-has-room.ensures) in
+    let free = leb-true (length xs + 1) (room c.args.self.now) (sym c.if-not-has_room.ensures) in
     let after = c.insert.ensures.after ∙ sym put_is in
     record {
       answer = sym (or_right (is_some (at key (key item) xs)) (ltb (length xs) (room c.args.self.now)) (lt-ltb (length xs) (room c.args.self.now) (omega arith)));

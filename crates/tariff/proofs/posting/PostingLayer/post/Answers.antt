@@ -6,8 +6,8 @@ use Rattle.tariff.specs.EachLemmas.{each_set}
 use Rattle.tariff.proofs.posting.PostingLayer.post.Goals as goal
 
 -- a posting within the limits leaves the table within them
-pub invariant-of-self : goal.invariant-of-self
-invariant-of-self g c =
-    let p = posting c.args.max-injection c.args.max-withdrawal in
+pub invariant_of-self : goal.invariant_of-self
+invariant_of-self g c =
+    let p = posting c.args.max_injection c.args.max_withdrawal in
     let within : in_capacity p ≡ true = grind (arith, nat_tests) in
-    (ap (each in_capacity) c.set.ensures ∙ each_set in_capacity c.args.self.now.postings.table _ p within c.args.self.now.limits, tt)
+    record { limits = ap (each in_capacity) c.set.ensures ∙ each_set in_capacity c.args.self.now.postings.table _ p within c.args.self.now.limits }
