@@ -1,7 +1,7 @@
 -- A record's own bytes are that record and nothing more.
 use Rattle.std.proofs.Common.{◌≡◌, ℕ, ◌+◌, ◌-◌, ◌<◌, ◌≤◌, Bool, true, false, cond, ltb, List, [], ◌∷◌, length, get_or, take, drop, Some, None, Ok, Err, Option, Result, sym, refl, ap, ◌∙◌, ⊎_elim, arith}
 use Rattle.std.proofs.lemmas.List.{length-take, length-drop, take-take, drop-take, get_or-take}
-use Rattle.std.proofs.lemmas.Bool.{cases_Bool, cond-true, cond_false, ltb-false, le-ltb}
+use Rattle.std.proofs.lemmas.Bool.{cases_Bool, cond-true, cond-false, ltb-false, le-ltb}
 use Rattle.calls.specs.declared.fields.Call.{Call}
 use Rattle.feed.specs.declared.fault.FeedRefusal.{FeedRefusal}
 use Rattle.feed.specs.declared.fault.FeedRefusal.TheVariants.{Cut, UnknownMark, OutsideLimits}
@@ -22,8 +22,8 @@ own f bs s =
     let front : take f.head xs ≡ take f.head bs = take-take f.head n bs (omega arith) in
     let same : size f xs ≡ n = ap (λ h. f.head + f.tail h) front in
     let all : take n xs ≡ xs = take-take n n bs (omega arith) in
-    cond_false (ltb (length xs) f.head) _ _ (le-ltb (length xs) f.head (omega arith))
-    ∙ cond_false (ltb (length xs) (size f xs)) _ _ (le-ltb (length xs) (size f xs) (omega arith))
+    cond-false (ltb (length xs) f.head) _ _ (le-ltb (length xs) f.head (omega arith))
+    ∙ cond-false (ltb (length xs) (size f xs)) _ _ (le-ltb (length xs) (size f xs) (omega arith))
     ∙ ap (λ k. told k (f.says (take k xs))) same
     ∙ ap (λ ys. told n (f.says ys)) all
 
@@ -38,11 +38,11 @@ stable_form f bs c n e =
     ⊎_elim
     (λ short. let z : read_form f bs ≡ Err Cut = cond-true (ltb (length bs) f.head) (Err Cut) middle short in
     let bad : ◌≡◌ {A = ℕ} 0 1 = cc in absurd (omega arith))
-    (λ h. let y : read_form f bs ≡ middle = cond_false (ltb (length bs) f.head) (Err Cut) middle h in
+    (λ h. let y : read_form f bs ≡ middle = cond-false (ltb (length bs) f.head) (Err Cut) middle h in
     ⊎_elim
     (λ short. let z : middle ≡ Err Cut = cond-true (ltb (length bs) (size f bs)) (Err Cut) inner short in
     let bad : ◌≡◌ {A = ℕ} 0 1 = cc in absurd (omega arith))
-    (λ s. let x : middle ≡ inner = cond_false (ltb (length bs) (size f bs)) (Err Cut) inner s in
+    (λ s. let x : middle ≡ inner = cond-false (ltb (length bs) (size f bs)) (Err Cut) inner s in
     let said : inner ≡ Ok (c, n) = sym x ∙ sym y ∙ e in
     let k : size f bs + 2 ≡ n = told_size (size f bs) n (f.says (take (size f bs) bs)) c said in
     let fits : size f bs ≤ length bs = ltb-false (length bs) (size f bs) s in
@@ -63,7 +63,7 @@ stable_by (f ∷ fs) a b bs c n e = ⊎_elim
     let s = stable_form f bs c n (sym (is bs) ∙ e) in
     record { low = s.low; high = s.high; again = is (take (n - 2) bs) ∙ s.again })
     (λ it_is_not.
-    let is : (xs : List ℕ) → read_by (f ∷ fs) a b xs ≡ read_by fs a b xs = λ xs. cond_false (marked a b f.mark) (read_form f xs) (read_by fs a b xs) it_is_not in
+    let is : (xs : List ℕ) → read_by (f ∷ fs) a b xs ≡ read_by fs a b xs = λ xs. cond-false (marked a b f.mark) (read_form f xs) (read_by fs a b xs) it_is_not in
     let s = stable_by fs a b bs c n (sym (is bs) ∙ e) in
     record { low = s.low; high = s.high; again = is (take (n - 2) bs) ∙ s.again })
     (cases_Bool (marked a b f.mark))
@@ -83,7 +83,7 @@ first_stable bs c n e =
     (λ short. let z : first_record bs ≡ Err Cut = cond-true (ltb (length bs) 2) (Err Cut) (by a b (drop 2 bs)) short in
     let bad : ◌≡◌ {A = ℕ} 0 1 = cc in absurd (omega arith))
     (λ long.
-    let s = stable_by forms a b (drop 2 bs) c n (sym (cond_false (ltb (length bs) 2) (Err Cut) (by a b (drop 2 bs)) long) ∙ e) in
+    let s = stable_by forms a b (drop 2 bs) c n (sym (cond-false (ltb (length bs) 2) (Err Cut) (by a b (drop 2 bs)) long) ∙ e) in
     let two_bytes : 2 ≤ length bs = ltb-false (length bs) 2 long in
     let low = s.low in
     let high = s.high in
@@ -98,7 +98,7 @@ first_stable bs c n e =
       low = low;
       high = omega arith;
       again =
-          cond_false (ltb (length xs) 2) (Err Cut) (by (get_or xs 0 0) (get_or xs 1 0) (drop 2 xs)) (le-ltb (length xs) 2 (omega arith))
+          cond-false (ltb (length xs) 2) (Err Cut) (by (get_or xs 0 0) (get_or xs 1 0) (drop 2 xs)) (le-ltb (length xs) 2 (omega arith))
           ∙ ap (λ x. by x (get_or xs 1 0) (drop 2 xs)) first ∙ ap (λ y. by a y (drop 2 xs)) second ∙ ap (by a b) rest ∙ s.again;
     })
     (cases_Bool (ltb (length bs) 2))

@@ -1,6 +1,6 @@
 -- Fields that were tested against their limits.
 use Rattle.std.proofs.Common.{◌≡◌, Bool, true, false, cond, Some, None, Option, sym, refl, ap, ◌∙◌}
-use Rattle.std.proofs.lemmas.Bool.{cond-true, cond_false}
+use Rattle.std.proofs.lemmas.Bool.{cond-true, cond-false}
 use Rattle.tariff.specs.Options.{when}
 
 module _ {F : Type 0} (limits : F → Bool) (x y : F) (same : x ≡ y) where
@@ -8,4 +8,4 @@ module _ {F : Type 0} (limits : F → Bool) (x y : F) (same : x ≡ y) where
   passed h = sym (cond-true (limits x) (Some x) None h) ∙ ap (λ z. when (limits z) z) same
 
   pub refused : limits x ≡ false → None ≡ when (limits y) y
-  refused h = sym (cond_false (limits x) (Some x) None h) ∙ ap (λ z. when (limits z) z) same
+  refused h = sym (cond-false (limits x) (Some x) None h) ∙ ap (λ z. when (limits z) z) same

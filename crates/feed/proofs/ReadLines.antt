@@ -1,6 +1,6 @@
 -- Reading lines one after another.
 use Rattle.std.proofs.Common.{◌≡◌, ℕ, zero, suc, ◌+◌, ◌-◌, ◌*◌, ◌<◌, ◌≤◌, List, [], ◌∷◌, ◌++◌, get_or, take, drop, set, replicate, sym, refl, ap, ◌∙◌, append_assoc, arith, take-append-drop, get_or-drop}
-use Rattle.std.proofs.lemmas.List.{drop_set_lt, drop-replicate, append-nil, drop-drop}
+use Rattle.std.proofs.lemmas.List.{drop-set-lt, drop-replicate, append-nil, drop-drop}
 use Rattle.calls.specs.declared.fields.Line.{Line}
 use Rattle.calls.specs.Limits.{blank_line}
 use Rattle.feed.specs.Numbers.{num1, num4}
@@ -50,7 +50,7 @@ pub blank_more : (lines : List Line) (x : Line) (i : ℕ) → drop i lines ≡ r
 blank_more lines x i e =
     let d : drop (i + 1) lines ≡ drop 1 (drop i lines) = sym (drop-drop 1 i lines) in
     let p : 200 - i - 1 ≡ 200 - (i + 1) = omega arith in
-    drop_set_lt (i + 1) lines i x (omega arith) ∙ d ∙ ap (λ ys. drop 1 ys) e ∙ drop-replicate 1 (200 - i) blank_line ∙ ap (λ k. replicate k blank_line) p
+    drop-set-lt (i + 1) lines i x (omega arith) ∙ d ∙ ap (λ ys. drop 1 ys) e ∙ drop-replicate 1 (200 - i) blank_line ∙ ap (λ k. replicate k blank_line) p
 
 pub padded_all : (lines : List Line) (n i : ℕ) (bs : List ℕ) → i ≡ n
     → take i lines ++ lines_of (n - i) (drop (9 * i) bs) ≡ lines_of n bs → drop i lines ≡ replicate (200 - i) blank_line

@@ -9,7 +9,7 @@ use calls::fields::Call;
 
 /// What follows a mark of the kind `K`; the length counts the mark.
 fn read_kind<K: Kind>(rest: &[u8]) -> Result<(Call, usize), FeedRefusal>
-    ensures value { result ≡ read_form (form marks heads tails within decode calls) rest.now }
+    ensures value { result ≡ read_form (form K.Kind.marks K.Kind.heads K.Kind.tails K.Kind.within K.Kind.decode K.Kind.calls) rest.now }
     ensures bound { IfOk result (λ p. (2 ≤ p.1) × (p.1 ≤ length rest.now + 2)) }
 {
     let head = K::head_len();

@@ -1,6 +1,6 @@
 -- A loop that makes each element anew in its place, and adds what it gives to a journal. Assumes nothing.
 use Rattle.std.proofs.Common.{◌≡◌, ℕ, ◌+◌, ◌<◌, ◌≤◌, List, [], ◌∷◌, ◌++◌, map, length, get_or, take, drop, set, sym, refl, ap, ◌∙◌, append_assoc, append-nil, arith}
-use Rattle.std.proofs.lemmas.List.{take_more_set, map_more, drop_set_lt, drop-drop, get_or-drop, take_all, length-set}
+use Rattle.std.proofs.lemmas.List.{take_more_set, map_more, drop-set-lt, drop-drop, get_or-drop, take_all, length-set}
 
 pub record Done {X Y : Type 0} (f : X → X) (g : X → Y) (i : ℕ) (start now : List X) (old out : List Y) : Type 0 where
   pub made : take i now ≡ map f (take i start)
@@ -27,7 +27,7 @@ module _ {X Y : Type 0} {f : X → X} {g : X → Y} {i : ℕ} {start now : List 
       let hn : i < length now = omega (arith, d.long) in
       record {
         made = ap (take (i + 1)) n ∙ take_more_set now i x hn ∙ (let m = map_more f start i e h in let p = d.made in cc);
-        left = ap (drop (i + 1)) n ∙ drop_set_lt (i + 1) now i x (omega arith) ∙ sym (drop-drop 1 i now) ∙ ap (drop 1) d.left ∙ drop-drop 1 i start;
+        left = ap (drop (i + 1)) n ∙ drop-set-lt (i + 1) now i x (omega arith) ∙ sym (drop-drop 1 i now) ∙ ap (drop 1) d.left ∙ drop-drop 1 i start;
         wrote = o ∙ ap (λ ys. ys ++ (y ∷ [])) d.wrote ∙ append_assoc old (map g (take i start)) (y ∷ []) ∙ ap (λ ys. old ++ ys) (ap (λ z. map g (take i start) ++ (z ∷ [])) ye ∙ sym (map_more g start i e h));
         long = ap length n ∙ length-set now i x ∙ d.long;
         longer = omega (arith, d.longer);

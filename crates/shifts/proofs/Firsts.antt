@@ -3,7 +3,7 @@ use Rattle.std.proofs.Common.{◌≡◌, ℕ, zero, suc, ◌+◌, ◌-◌, ◌<�
 use mathlib.Core.List.{reverse-cons}
 use Rattle.std.specs.Option.{option_map}
 use Rattle.std.proofs.lemmas.List.{take_more, at_drop_more, at_drop_all, reverse-append}
-use Rattle.std.proofs.lemmas.Bool.{cond-true, cond_false}
+use Rattle.std.proofs.lemmas.Bool.{cond-true, cond-false}
 use Rattle.calls.specs.declared.fields.Line.{Line}
 use Rattle.ledger.specs.State.{line_key}
 use Rattle.ledger.specs.Table.{first_such, first_repeated, among, pipelines}
@@ -13,7 +13,7 @@ module _ {X : Type 0} (test : X → Bool) (xs : List X) (i : ℕ) (d : X) where
   such_found h t = at_drop_more (first_such test) xs i d h ∙ cond-true _ _ _ t
 
   pub such_passed : i < length xs → test (get_or xs i d) ≡ false → first_such test (drop i xs) ≡ first_such test (drop (i + 1) xs)
-  such_passed h t = at_drop_more (first_such test) xs i d h ∙ cond_false _ _ _ t
+  such_passed h t = at_drop_more (first_such test) xs i d h ∙ cond-false _ _ _ t
 
 pub such_ended : {X : Type 0} (test : X → Bool) (xs : List X) (i : ℕ) → length xs ≤ i → first_such test (drop i xs) ≡ None
 such_ended test xs i h = at_drop_all (first_such test) xs i h
@@ -59,7 +59,7 @@ module _ (xs : List Line) (i : ℕ) (d : Line) (h : i < length xs) where
 
   pub repeated_passed : is_some (first_such (same_key (line_key (get_or xs i d))) (take i xs)) ≡ false → first_repeated (reverse (take i xs)) (drop i xs) ≡ first_repeated (reverse (take (i + 1) xs)) (drop (i + 1) xs)
   repeated_passed e =
-      at_drop_more (first_repeated (reverse (take i xs))) xs i d h ∙ cond_false _ _ _ (sym (among_passed (line_key (get_or xs i d)) (take i xs)) ∙ e)
+      at_drop_more (first_repeated (reverse (take i xs))) xs i d h ∙ cond-false _ _ _ (sym (among_passed (line_key (get_or xs i d)) (take i xs)) ∙ e)
       ∙ ap (λ ls. first_repeated ls (drop (i + 1) xs)) (sym passed_more)
 
 -- the pipelines from a number on

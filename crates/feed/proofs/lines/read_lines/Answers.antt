@@ -6,8 +6,8 @@ use Rattle.feed.proofs.lines.read_lines.Goals as goal
 pub loop-i-preserved : goal.loop-i-preserved
 loop-i-preserved c = (
   search rules,
-  push_more _ _ _ c.read-line.result c.args.count c.loop-i.i c.args.bytes.now (search rules) c.loop-i.invariant.1 (take_more_set c.loop-i.lines c.loop-i.i c.read-line.result (search rules)) c.read-line.ensures,
-  blank_more c.loop-i.lines c.read-line.result c.loop-i.i c.loop-i.invariant.2,
+  push_more _ _ _ c.read_line.result c.args.count c.loop-i.i c.args.bytes.now (search rules) c.loop-i.invariant.1 (take_more_set c.loop-i.lines c.loop-i.i c.read_line.result (search rules)) c.read_line.ensures,
+  blank_more c.loop-i.lines c.read_line.result c.loop-i.i c.loop-i.invariant.2,
 )
 
 pub returns : goal.returns

@@ -1,6 +1,6 @@
 use Rattle.std.proofs.Common.{◌≡◌, ◌+◌, get_or, arith}
 use Rattle.std.proofs.lemmas.List.{at_drop_all}
-use Rattle.std.proofs.lemmas.Bool.{cond-true, cond_false, eq-eqb, ne_eqb}
+use Rattle.std.proofs.lemmas.Bool.{cond-true, cond-false, eq-eqb, ne_eqb}
 use Rattle.calls.specs.Limits.{blank_line}
 use Rattle.ledger.specs.State.{standing, of_account, picked}
 use Rattle.settling.proofs.Runs.{opened, none_past}
@@ -26,13 +26,13 @@ loop-next-preserved c =
     let added : c.if-lines-next-2.therms ≡ c.loop-next.therms + picked (of_account n) l =
     elim c.if-lines-next-2.branch [
       | goal.then-lines-next-2 w ↦ let mine : picked (of_account n) l ≡ l.therms = cond-true _ _ _ (eq-eqb _ _ w.if-lines-next-2.true) in omega (arith, w.therms-is)
-      | goal.else-lines-next-2 w ↦ let other : picked (of_account n) l ≡ 0 = cond_false _ _ _ (ne_eqb _ _ w.if-lines-next-2.false) in omega (arith, w.therms-is)
+      | goal.else-lines-next-2 w ↦ let other : picked (of_account n) l ≡ 0 = cond-false _ _ _ (ne_eqb _ _ w.if-lines-next-2.false) in omega (arith, w.therms-is)
     ]
     in (
       omega arith,
       omega arith,
       λ m h.
-          let past : picked (of_account m) l ≡ 0 = cond_false _ _ _ (ne_eqb _ _ (λ (e : l.account ≡ m). let low = c.if-lines-next.true in omega arith)) in
+          let past : picked (of_account m) l ≡ 0 = cond-false _ _ _ (ne_eqb _ _ (λ (e : l.account ≡ m). let low = c.if-lines-next.true in omega arith)) in
           let before = opened m ls i c.loop-next-test.true in
           let same = c.loop-next.invariant.2 m h in
           omega arith,

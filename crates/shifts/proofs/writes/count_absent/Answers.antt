@@ -1,6 +1,6 @@
 use Rattle.std.proofs.Common.{◌≡◌, ℕ, Bool, true, false, cond, not, get_or, drop, is_some, sym, refl, ap, ◌∙◌, arith}
 use Rattle.std.proofs.lemmas.List.{at_drop_all}
-use Rattle.std.proofs.lemmas.Bool.{cond-true, cond_false}
+use Rattle.std.proofs.lemmas.Bool.{cond-true, cond-false}
 use Rattle.register.specs.Keys.{at}
 use Rattle.register.specs.Views.{held}
 use Rattle.calls.specs.Limits.{blank_line}
@@ -27,7 +27,7 @@ loop-line-preserved c =
           let one : cond {A = ℕ} (is_absent ls (get_or xs i blank_line)) 1 0 ≡ 1 = cond-true _ _ _ (flag ∙ w.if-is-none.true) in
           (omega (arith, w.absent-is), omega (arith, w.absent-is))
       | goal.else-is-none w ↦
-          let one : cond {A = ℕ} (is_absent ls (get_or xs i blank_line)) 1 0 ≡ 0 = cond_false _ _ _ (flag ∙ w.if-is-none.false) in
+          let one : cond {A = ℕ} (is_absent ls (get_or xs i blank_line)) 1 0 ≡ 0 = cond-false _ _ _ (flag ∙ w.if-is-none.false) in
           (omega (arith, w.absent-is), omega (arith, w.absent-is))
     ]
 
