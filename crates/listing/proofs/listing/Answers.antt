@@ -17,7 +17,7 @@ loop-offset-preserved c =
       search rules,
       (
         done.0 ++ (call ∷ []),
-        c.in-ok-push-call.ensures ∙ ap (λ x. x ++ call_text call) done.1 ∙ sym (calls_push done.0 call),
+        c.in_ok-push_call-in-Ok.ensures ∙ ap (λ x. x ++ call_text call) done.1 ∙ sym (calls_push done.0 call),
         one_more c.args.feed.now (c.loop-offset.count + 1) c.loop-offset.offset done.0 done.2 call c.in-Ok.length c.loop-offset-test.true c.in-Ok.ensures.value,
       ),
     )
@@ -28,7 +28,7 @@ returns-in-Err c =
     let fault = feed_fault (c.loop-offset.count + 1) c.loop-offset.offset c.in-Err.cause in
     listed c.args.feed.now _ done.0 (Some fault)
     (stopped c.args.feed.now (c.loop-offset.count + 1) c.loop-offset.offset done.0 done.2 c.in-Err.cause c.loop-offset-test.true c.in-Err.ensures.value)
-    (c.in-ok-push-fault.ensures ∙ ap (λ x. x ++ ending_text (Some fault)) done.1)
+    (c.in_ok-push_fault-in-Err.ensures ∙ ap (λ x. x ++ ending_text (Some fault)) done.1)
 
 pub returns : goal.returns
 returns c =

@@ -8,7 +8,7 @@ returns c =
     let out = string_bytes c.args.out.now in
     let mark = mark_of c.args.call.now in
     let figures = figures_text (figures_of c.args.call.now) in
-    pushed (codes "\n") refl c.in-ok-push-str.was c.push-str.ensures.bytes
-    ∙ ap (λ x. x ++ codes "\n") c.in-ok-push-fields.ensures
+    pushed (codes "\n") refl c.in_ok-push_str.was c.push_str.ensures.bytes
+    ∙ ap (λ x. x ++ codes "\n") c.in_ok-push_fields.ensures
     ∙ append_assoc out (mark ++ figures) (codes "\n")
     ∙ ap (λ x. out ++ x) (append_assoc mark figures (codes "\n"))

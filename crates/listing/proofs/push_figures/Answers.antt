@@ -7,10 +7,10 @@ use Rattle.listing.proofs.push_figures.Goals as goal
 
 pub loop-figure-preserved : goal.loop-figure-preserved
 loop-figure-preserved c =
-    let text = c.as-str.result.now in
+    let text = c.as_str.result.now in
     join_more _ _ text _ _ _
-    (figures_left c.args.figures.now c.loop-figure.figure-index text c.loop-figure-test.true (c.as-str.ensures.value ∙ c.in-ok-text.ensures.ok))
-    (pushed text refl c.in-ok-push-str.was c.push-str.ensures.bytes)
+    (figures_left c.args.figures.now c.loop-figure.figure-index text c.loop-figure-test.true (c.as_str.ensures.value ∙ c.in_ok-text.ensures.ok))
+    (pushed text refl c.in_ok-push_str.was c.push_str.ensures.bytes)
     c.loop-figure.invariant
 
 pub returns : goal.returns

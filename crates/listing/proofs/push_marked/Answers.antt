@@ -7,5 +7,5 @@ pub returns : goal.returns
 returns c =
     let mark = c.args.mark.now in
     let figures = figures_text c.args.figures.now in
-    let first = pushed mark refl c.in-ok-push-str.was c.push-str.ensures.bytes in
-    c.in-ok-push-figures.ensures ∙ ap (λ x. x ++ figures) first ∙ append_assoc (string_bytes c.args.out.now) mark figures
+    let first = pushed mark refl c.in_ok-push_str.was c.push_str.ensures.bytes in
+    c.in_ok-push_figures.ensures ∙ ap (λ x. x ++ figures) first ∙ append_assoc (string_bytes c.args.out.now) mark figures

@@ -12,8 +12,8 @@ returns c =
     let head : List ℕ = r.supplier ∷ r.minute ∷ r.count ∷ [] in
     let lines = lines_figures (named_lines r) in
     let size : length r.lines ≡ 200 = search rules in
-    c.in-ok-push-lines.ensures
-    ∙ ap (λ ls. string_bytes c.push-marked.new.out ++ figures_text (lines_figures ls)) (named_part r c.min-count.result c.min-count.ensures size)
-    ∙ ap (λ x. x ++ figures_text lines) c.in-ok-push-marked.ensures
+    c.in_ok-push_lines.ensures
+    ∙ ap (λ ls. string_bytes c.push_marked.new.out ++ figures_text (lines_figures ls)) (named_part r c.min-count.result c.min-count.ensures size)
+    ∙ ap (λ x. x ++ figures_text lines) c.in_ok-push_marked.ensures
     ∙ append_assoc out (mark_rl ++ figures_text head) (figures_text lines)
     ∙ ap (λ x. out ++ x) (append_assoc mark_rl (figures_text head) (figures_text lines) ∙ ap (λ x. mark_rl ++ x) (sym (figures_append head lines)))
