@@ -1,10 +1,10 @@
 -- A record's own bytes are that record and nothing more.
-use Rattle.std.proofs.Common.{◌≡◌, ℕ, ◌+◌, ◌-◌, ◌<◌, ◌≤◌, Bool, true, false, cond, ltb, List, [], ◌∷◌, length, get_or, take, drop, Some, None, Ok, Err, Option, Result, sym, refl, ap, ◌∙◌, ⊎_elim, arith}
+use Rattle.std.proofs.Common.{◌≡◌, ℕ, ◌+◌, ◌-◌, ◌≤◌, cond, ltb, List, [], ◌∷◌, length, get_or, take, drop, Some, None, Ok, Err, Option, Result, sym, ap, ◌∙◌, ⊎_elim, arith}
 use Rattle.std.proofs.lemmas.List.{length-take, length-drop, take-take, drop-take, get_or-take}
 use Rattle.std.proofs.lemmas.Bool.{cases_Bool, cond-true, cond-false, ltb-false, le-ltb}
 use Rattle.calls.specs.declared.fields.Call.{Call}
 use Rattle.feed.specs.declared.fault.FeedRefusal.{FeedRefusal}
-use Rattle.feed.specs.declared.fault.FeedRefusal.TheVariants.{Cut, UnknownMark, OutsideLimits}
+use Rattle.feed.specs.declared.fault.FeedRefusal.TheVariants.{Cut}
 use Rattle.feed.specs.Records.{Form, size, told, read_form, forms, marked, read_by, first_record}
 
 -- what reads as a record reads so from its own bytes alone, and lies within what was given

@@ -1,6 +1,6 @@
 -- A feed cut record after record.
-use Rattle.std.proofs.Common.{◌≡◌, ℕ, suc, ◌+◌, ◌-◌, ◌<◌, ◌≤◌, List, [], ◌∷◌, ◌++◌, length, take, drop, Some, None, Ok, Err, Option, Result, sym, refl, ap, ◌∙◌, subst, append_assoc, arith}
-use Rattle.std.proofs.lemmas.List.{drop-drop, length-drop, drop_all, length-append, append-nil}
+use Rattle.std.proofs.Common.{◌≡◌, ℕ, ◌+◌, ◌-◌, ◌<◌, ◌≤◌, List, [], ◌∷◌, ◌++◌, length, take, drop, Some, None, Ok, Err, Option, sym, refl, ap, ◌∙◌, subst, append_assoc, arith}
+use Rattle.std.proofs.lemmas.List.{drop-drop, length-drop, drop_all, append-nil}
 use Rattle.std.proofs.lemmas.Slice.{between_to_end}
 use Rattle.calls.specs.declared.fields.Call.{Call}
 use Rattle.feed.specs.declared.fault.FeedRefusal.{FeedRefusal}

@@ -1,12 +1,10 @@
 -- A feed that is cut into records is those records one after another.
-use Rattle.std.proofs.Common.{◌≡◌, ℕ, suc, ◌+◌, ◌-◌, ◌<◌, ◌≤◌, List, [], ◌∷◌, ◌++◌, map, length, take, drop, Some, None, Ok, Err, Option, sym, refl, ap, ◌∙◌, subst, append_assoc, arith, take-append-drop}
-use Rattle.std.specs.List.{AllByRecursion as All}
+use Rattle.std.proofs.Common.{◌≡◌, ℕ, suc, ◌+◌, List, [], ◌∷◌, ◌++◌, length, take, Ok, Option, sym, refl, ap, ◌∙◌, subst, append_assoc, arith, take-append-drop}
 use Rattle.std.proofs.lemmas.List.{length-take, length-append}
 use Rattle.calls.specs.declared.fields.Call.{Call}
-use Rattle.feed.specs.declared.fault.FeedRefusal.{FeedRefusal}
 use Rattle.feed.specs.declared.fault.Fault.{Fault}
 use Rattle.feed.specs.Records.{first_record}
-use Rattle.feed.specs.Cuts.{Cuts, ends, stops, takes, Piece, joined, Alone, Ending, Divided, feed_fault}
+use Rattle.feed.specs.Cuts.{Cuts, ends, stops, takes, Piece, joined, Ending, Divided}
 use Rattle.feed.proofs.Alone.{first_stable}
 
 ending_at : (k k' i i' : ℕ) (rest : List ℕ) (f : Option Fault) → k ≡ k' → i ≡ i' → Ending k i rest f → Ending k' i' rest f

@@ -1,9 +1,9 @@
 -- Reading lines one after another.
-use Rattle.std.proofs.Common.{◌≡◌, ℕ, zero, suc, ◌+◌, ◌-◌, ◌*◌, ◌<◌, ◌≤◌, List, [], ◌∷◌, ◌++◌, get_or, take, drop, set, replicate, sym, refl, ap, ◌∙◌, append_assoc, arith, take-append-drop, get_or-drop}
+use Rattle.std.proofs.Common.{◌≡◌, ℕ, suc, ◌+◌, ◌-◌, ◌*◌, ◌<◌, ◌≤◌, List, [], ◌∷◌, ◌++◌, get_or, take, drop, set, replicate, sym, refl, ap, ◌∙◌, append_assoc, arith, take-append-drop, get_or-drop}
 use Rattle.std.proofs.lemmas.List.{drop-set-lt, drop-replicate, append-nil, drop-drop}
 use Rattle.calls.specs.declared.fields.Line.{Line}
 use Rattle.calls.specs.Limits.{blank_line}
-use Rattle.feed.specs.Numbers.{num1, num4}
+use Rattle.feed.specs.Numbers.{num4}
 use Rattle.feed.specs.Fields.{line_at, lines_of, padded}
 
 -- a line further on

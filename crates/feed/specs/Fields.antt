@@ -1,5 +1,5 @@
 -- The fields of each kind of record: what its bytes say, and its bytes.
-use Rattle.std.specs.Prelude.{ℕ, zero, suc, ◌+◌, ◌-◌, ◌*◌, List, [], ◌∷◌, ◌++◌, take, drop, replicate}
+use Rattle.std.specs.Prelude.{ℕ, zero, suc, ◌+◌, ◌-◌, ◌*◌, List, [], ◌∷◌, ◌++◌, drop, replicate}
 use Rattle.calls.specs.declared.fields.MonthBegin.{MonthBegin}
 use Rattle.calls.specs.declared.fields.AccountOpening.{AccountOpening}
 use Rattle.calls.specs.declared.fields.AccountMove.{AccountMove}

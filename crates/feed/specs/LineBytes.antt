@@ -1,15 +1,15 @@
 -- Lines and their bytes, nine each.
-use Rattle.std.specs.Prelude.{◌≡◌, ℕ, zero, suc, ◌+◌, ◌-◌, ◌*◌, ◌/◌, ◌%◌, ◌<◌, ◌≤◌, Bool, true, ◌&&◌, eqb, leb, List, [], ◌∷◌, ◌++◌, length, get_or, take, drop, replicate, refl}
-use Rattle.std.proofs.Common.{sym, ap, ◌∙◌, arith}
+use Rattle.std.specs.Prelude.{◌≡◌, ℕ, zero, suc, ◌*◌, true, List, [], ◌∷◌, length, drop, replicate, refl}
+use Rattle.std.proofs.Common.{ap, ◌∙◌, arith}
 use Rattle.std.proofs.lemmas.List.{length-drop}
-use Rattle.std.proofs.lemmas.Bool.{and_parts, eqb-true}
+use Rattle.std.proofs.lemmas.Bool.{and_parts}
 use Rattle.std.proofs.lemmas.Bool.Decides.{nat_tests}
 use Rattle.tariff.specs.Each.{each}
 use Rattle.calls.specs.declared.fields.Line.{Line}
 use Rattle.calls.specs.Limits.{blank_line, is_blank, line_within}
 use Rattle.feed.specs.Numbers.{Bytes, num1, num4, one, four}
 use Rattle.feed.specs.Fields.{line_at, line_bytes, lines_of, lines_bytes}
-use Rattle.feed.specs.Spread.{spread, spread_drop, four_num4}
+use Rattle.feed.specs.Spread.{spread_drop, four_num4}
 
 pub length_lines : (n : ℕ) (bs : List ℕ) → length (lines_of n bs) ≡ n
 length_lines zero bs = refl

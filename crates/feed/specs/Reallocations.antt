@@ -1,5 +1,5 @@
 -- A reallocation and its bytes.
-use Rattle.std.specs.Prelude.{◌≡◌, ℕ, ◌+◌, ◌-◌, ◌*◌, ◌/◌, ◌%◌, ◌≤◌, min, Bool, true, ◌&&◌, List, [], ◌∷◌, ◌++◌, length, take, drop, replicate, ◌==◌, slice_index, slice_index_or, refl}
+use Rattle.std.specs.Prelude.{◌≡◌, ℕ, ◌+◌, ◌-◌, ◌*◌, ◌≤◌, true, ◌&&◌, List, ◌∷◌, ◌++◌, length, take, drop, replicate, ◌==◌, slice_index, slice_index_or}
 use Rattle.std.proofs.Common.{sym, ap, ◌∙◌, arith, take-append-drop, get_or-take}
 use Rattle.std.proofs.lemmas.List.{length-take, length-drop, take_at}
 use Rattle.std.proofs.lemmas.Bool.{and_parts, eqb-true}
@@ -8,7 +8,7 @@ use Rattle.tariff.specs.Each.{each}
 use Rattle.calls.specs.declared.fields.Line.{Line}
 use Rattle.calls.specs.declared.fields.Reallocation.{Reallocation}
 use Rattle.calls.specs.Limits.{is_supplier, is_minute, between, blank_line, is_blank, line_within, named_lines, places_past, reallocation_within}
-use Rattle.feed.specs.Numbers.{Bytes, num1, num2, num4, one, two, four}
+use Rattle.feed.specs.Numbers.{Bytes, num1, num2, one, two}
 use Rattle.feed.specs.Fields.{lines_of, lines_bytes, padded, reallocation_of, reallocation_bytes, lines_tail}
 use Rattle.feed.specs.Spread.{spread_drop, two_num2}
 use Rattle.feed.specs.LineBytes.{length_lines, length_bytes, bytes_drop, bytes_of_lines, lines_of_bytes, blanks_are}

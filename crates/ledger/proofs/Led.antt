@@ -1,5 +1,5 @@
 -- A book that calls alone have led to: what its calls may lean on, and that one call more leads on.
-use Rattle.std.proofs.Common.{◌≡◌, ℕ, zero, suc, ◌<◌, ◌≤◌, Bool, true, false, ◌&&◌, ◌||◌, eqb, ltb, leb, List, [], ◌∷◌, ℤ, pos, neg_ℤ, is_some, Some, None, Option, refl, subst, arith}
+use Rattle.std.proofs.Common.{◌≡◌, ℕ, zero, suc, ◌<◌, Bool, true, false, ◌||◌, eqb, ltb, List, [], ◌∷◌, pos, neg_ℤ, is_some, Some, None, Option, refl, arith}
 use mathlib.Core.Bool.{Bool-set}
 use mathlib.Core.Logic.{∥∥₁_elim, ∥∥₁_map}
 use lib.Signed.{le_z}
@@ -13,18 +13,15 @@ use Rattle.tariff.specs.Each.{each}
 use Rattle.calls.specs.declared.fields.Call.{Call}
 use Rattle.calls.specs.declared.refusal.Refusal.{Refusal}
 use Rattle.calls.specs.Limits.{line_within}
-use Rattle.ledger.specs.declared.records.Account.{Account}
 use Rattle.ledger.specs.declared.records.Row.{Row}
 use Rattle.ledger.specs.declared.records.Stage.{Stage}
 use Rattle.ledger.specs.declared.records.Stage.TheVariants.{Unopened, Between, Nominating, Ended, Closed}
 use Rattle.ledger.specs.State.{State, days_of}
 use Rattle.ledger.specs.Table.{verdict, is_unopened}
 use Rattle.ledger.specs.Rows.{Rules}
-use Rattle.ledger.specs.Terms.{lines_of}
 use Rattle.ledger.specs.Effects.{done}
 use Rattle.ledger.specs.Runs.{History, Leads, Lawful, met, refused, accepted, answered, answer_by, after, after_by, count_of}
-use Rattle.ledger.specs.Count.{count}
-use Rattle.ledger.specs.Safety.{Safe, CalendarSafe, account_within}
+use Rattle.ledger.specs.Safety.{CalendarSafe, account_within}
 use Rattle.ledger.specs.Law.{Upheld}
 use Rattle.ledger.specs.Ready.{Led, Ready, no_day, price_of_month, cents_bounded, deliverable}
 use Rattle.ledger.proofs.Lines.{whole_limit}

@@ -1,12 +1,11 @@
 -- Each accepted call leaves the book safe.
-use Rattle.std.proofs.Common.{◌≡◌, ℕ, ◌+◌, ◌-◌, ◌<◌, ◌≤◌, true, false, ◌&&◌, leb, List, [], ◌∷◌, ◌++◌, map, length, is_some, Some, None, Option, sym, refl, ap, ◌∙◌, subst, ⊎_elim, arith}
+use Rattle.std.proofs.Common.{◌≡◌, ℕ, ◌+◌, ◌<◌, ◌≤◌, true, false, ◌&&◌, leb, List, [], ◌∷◌, ◌++◌, map, length, is_some, Some, None, Option, sym, refl, ap, ◌∙◌, subst, ⊎_elim, arith}
 use Rattle.std.specs.List.{AllByRecursion as All}
 use Rattle.std.proofs.lemmas.Bool.Decides.{nat_tests}
 use Rattle.std.proofs.lemmas.Bool.{and_parts, and_from, false≢true, not-false, eqb-true, leb-true, cases_eq}
 use Rattle.std.proofs.ByRecursion.{All-weaker, All-append, All-map}
 use Rattle.std.proofs.lemmas.List.{length-append, length-map}
 use Rattle.tariff.specs.Calendar.{days_in}
-use Rattle.tariff.specs.Each.{each}
 use Rattle.tariff.specs.Prices.{average}
 use Rattle.tariff.specs.Cents.{RowBound}
 use Rattle.tariff.proofs.Averages.{average_high}

@@ -1,5 +1,5 @@
 -- What every call may lean on, each part as a test, wherever calls alone have led.
-use Rattle.std.specs.Prelude.{◌≡◌, ℕ, ◌+◌, Bool, true, not, ◌&&◌, ◌||◌, leb, length, ℤ, pos, neg_ℤ, is_some, ◌==◌, int_le, nat_le, nat_lt}
+use Rattle.std.specs.Prelude.{◌≡◌, ℕ, Bool, true, not, ◌&&◌, ◌||◌, leb, length, pos, neg_ℤ, is_some, ◌==◌, int_le, nat_le, nat_lt}
 use Rattle.tariff.specs.Calendar.{in_calendar}
 use Rattle.tariff.specs.Each.{each}
 use Rattle.tariff.specs.Loss.{most_loss}

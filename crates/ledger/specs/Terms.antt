@@ -1,5 +1,5 @@
 -- The terms of a day and of a close, alike for every account, and what they come to: what the code of the book is held to.
-use Rattle.std.specs.Prelude.{ℕ, ◌+◌, List, [], ◌∷◌, ◌++◌, map, None}
+use Rattle.std.specs.Prelude.{ℕ, ◌+◌, [], ◌++◌, map, None}
 use Rattle.tariff.specs.declared.calendar.Date.{Date}
 use Rattle.tariff.specs.declared.question.Figures.{Figures}
 use Rattle.tariff.specs.declared.settling.SettledDay.{SettledDay}
@@ -15,7 +15,7 @@ use Rattle.ledger.specs.declared.records.Row.{Row}
 use Rattle.ledger.specs.declared.records.RowKind.TheVariants as Rows
 use Rattle.ledger.specs.declared.records.Stage.TheVariants.{Between}
 use Rattle.ledger.specs.State.{State, days_of, amount, standing, of_account}
-use Rattle.ledger.specs.Rows.{Rule, index_on, market_on, row_tiers, no_tiers, index_total}
+use Rattle.ledger.specs.Rows.{Rule, index_on, market_on, row_tiers, index_total}
 
 -- what the day begun is settled by
 abbrev pub day_terms : State → DayTerms

@@ -1,5 +1,5 @@
 -- The bounds of the published tables hold of every month's row.
-use Rattle.std.proofs.Common.{◌≡◌, ℕ, ◌-◌, ◌≤◌, refl, arith}
+use Rattle.std.proofs.Common.{ℕ, ◌-◌, ◌≤◌, refl, arith}
 use Rattle.std.proofs.lemmas.Bool.Decides.{nat_tests}
 use Rattle.tariff.specs.Published.{band, month_end_bands, band_in, band_bounded}
 use Rattle.tariff.specs.EachLemmas.{each_getD}

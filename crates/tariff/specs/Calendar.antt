@@ -1,5 +1,5 @@
 -- The calendar of gas months, from January 2024 to December 2099.
-use Rattle.std.specs.Prelude.{ℕ, ◌+◌, ◌%◌, Bool, cond, ◌&&◌, ◌||◌, Some, None, Option, ◌==◌, nat_le, nat_lt}
+use Rattle.std.specs.Prelude.{ℕ, ◌+◌, ◌%◌, Bool, cond, ◌&&◌, ◌||◌, Some, Option, ◌==◌, nat_le, nat_lt}
 use Rattle.tariff.specs.declared.calendar.Date.{Date}
 use Rattle.tariff.specs.Options.{when}
 

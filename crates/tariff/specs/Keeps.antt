@@ -1,5 +1,5 @@
 -- The law of day rules.
-use Rattle.std.specs.Prelude.{◌≡◌, ℕ, ◌+◌, ◌-◌, ◌≤◌}
+use Rattle.std.specs.Prelude.{◌≡◌, ◌+◌, ◌-◌, ◌≤◌}
 use Rattle.tariff.specs.declared.question.Figures.{Figures}
 use Rattle.tariff.specs.declared.answer.Answer.{Answer}
 use Rattle.tariff.specs.Tiers.{total}

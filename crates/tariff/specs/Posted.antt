@@ -7,11 +7,10 @@ use Rattle.tariff.specs.declared.posting.Posting.{Posting}
 use Rattle.tariff.specs.Each.{each}
 use Rattle.tariff.specs.Figures.{fair}
 use Rattle.tariff.specs.Keeps.{Keeps}
-use Rattle.tariff.specs.Published.{share}
 use Rattle.tariff.specs.Postings.{unposted, in_capacity, posting_on, under}
 use Rattle.tariff.specs.EachLemmas.{each_getD}
 use Rattle.tariff.specs.Shares.{share_le}
-use Rattle.tariff.specs.Fairness.{Limits, limits, fair_from}
+use Rattle.tariff.specs.Fairness.{limits, fair_from}
 
 pub posting_high : (day : ℕ) (table : List Posting) → each in_capacity table ≡ true
     → ((posting_on day table).max_injection ≤ 10000) × ((posting_on day table).max_withdrawal ≤ 10000)

@@ -1,5 +1,5 @@
 -- A part of capacity is at most capacity, and a greater part is no less.
-use Rattle.std.specs.Prelude.{ℕ, ◌*◌, ◌/◌, ◌<◌, ◌≤◌}
+use Rattle.std.specs.Prelude.{ℕ, ◌*◌, ◌≤◌}
 use Rattle.std.proofs.Common.{arith, mul-le-mul_left}
 use Rattle.tariff.specs.Published.{share, percent}
 

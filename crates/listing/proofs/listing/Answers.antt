@@ -1,4 +1,4 @@
-use Rattle.std.proofs.Common.{◌≡◌, ℕ, ◌+◌, [], ◌∷◌, ◌++◌, Some, None, sym, refl, ap, ◌∙◌, append-nil, arith, rules}
+use Rattle.std.proofs.Common.{◌+◌, [], ◌∷◌, ◌++◌, Some, None, sym, ap, ◌∙◌, append-nil, arith, rules}
 use Rattle.feed.specs.Cuts.{feed_fault}
 use Rattle.feed.proofs.CutSteps.{nothing_behind, one_more, stopped, ended}
 use Rattle.listing.specs.Listing.{calls_text, call_text, ending_text}

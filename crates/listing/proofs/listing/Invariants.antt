@@ -1,4 +1,4 @@
-use Rattle.std.proofs.Common.{◌≡◌, ℕ, ◌+◌, ◌-◌, ◌≤◌, List, ◌++◌, length, drop, string_bytes, Option}
+use Rattle.std.proofs.Common.{◌≡◌, ◌+◌, ◌-◌, ◌≤◌, List, ◌++◌, length, drop, string_bytes, Option}
 use Rattle.calls.specs.declared.fields.Call.{Call}
 use Rattle.feed.specs.declared.fault.Fault.{Fault}
 use Rattle.feed.specs.Cuts.{Cuts}

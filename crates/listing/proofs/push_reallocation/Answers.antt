@@ -1,4 +1,4 @@
-use Rattle.std.proofs.Common.{◌≡◌, ℕ, List, [], ◌∷◌, ◌++◌, length, string_bytes, sym, refl, ap, ◌∙◌, append_assoc, rules}
+use Rattle.std.proofs.Common.{◌≡◌, ℕ, List, [], ◌∷◌, ◌++◌, length, string_bytes, sym, ap, ◌∙◌, append_assoc, rules}
 use Rattle.calls.specs.Limits.{named_lines}
 use Rattle.feed.specs.Marks.{mark_rl}
 use Rattle.listing.specs.Listing.{lines_figures, figures_text}

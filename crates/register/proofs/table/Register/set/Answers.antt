@@ -1,10 +1,9 @@
-use Rattle.std.proofs.Common.{◌≡◌, ℕ, ◌+◌, ◌<◌, Bool, true, false, ◌||◌, ltb, List, length, take, drop, set, is_some, sym, refl, ap, ◌∙◌, subst, arith}
+use Rattle.std.proofs.Common.{ℕ, ◌+◌, ◌<◌, ltb, length, take, drop, is_some, sym, refl, ap, ◌∙◌, subst, arith}
 use Rattle.std.specs.List.{AllByRecursion as All}
 use Rattle.std.proofs.lemmas.Bool.{or_left, or_right, or_from, leb-true, leb-false, lt-ltb, le-ltb}
 use Rattle.register.specs.Keys.{at, rising}
 use Rattle.register.specs.Views.{held, room}
 use Rattle.register.proofs.AtKeys.{at_found, at_missing, put_found, put_missing, rising_put}
-use Rattle.register.proofs.table.Register.set.Given as given
 use Rattle.register.proofs.table.Register.set.Goals as goal
 
 pub returns-in-Ok : goal.returns-in-Ok
