@@ -1,6 +1,6 @@
 -- A whole feed, cut into its records.
 use Rattle.std.specs.Prelude.{◌≡◌, ℕ, ◌+◌, ◌<◌, List, [], ◌∷◌, ◌++◌, map, length, drop, Some, None, Ok, Err, Option, Result}
-use Rattle.std.specs.List.{AllByRecursion as All}
+use Rattle.std.specs.List.{AllByRecursion}
 use Rattle.calls.specs.declared.fields.Call.{Call}
 use Rattle.feed.specs.declared.fault.FeedRefusal.{FeedRefusal}
 use Rattle.feed.specs.declared.fault.Layer.TheVariants.{Feed}
@@ -41,7 +41,7 @@ pub record Divided (k i : ℕ) (bs : List ℕ) (cs : List Call) (f : Option Faul
   pub rest : List ℕ
   pub whole : bs ≡ joined pieces ++ rest
   pub calls : map (λ p. p.call) pieces ≡ cs
-  pub alone : All Alone pieces
+  pub alone : AllByRecursion Alone pieces
   pub ending : Ending (k + length pieces) (i + length (joined pieces)) rest f
 
 -- what was counted, or the fault

@@ -1,7 +1,7 @@
 -- The book's accounts and the count's agree, one account after another.
 use Rattle.std.proofs.Common.{◌≡◌, ℕ, ◌<◌, ◌≤◌, Bool, true, cond, eqb, List, arith}
 use mathlib.Core.Path.{fun_ext}
-use Rattle.std.specs.List.{AllByRecursion as All}
+use Rattle.std.specs.List.{AllByRecursion}
 use Rattle.std.proofs.lemmas.Bool.Decides.{nat_tests}
 use Rattle.ledger.specs.declared.records.Account.{Account}
 use Rattle.register.specs.Keys.{put, rising}
@@ -19,7 +19,7 @@ pub record Sound (a : Account) : Type 0 where
 
 pub record AccountsAgree (opened : ℕ → Bool) (supplier reading : ℕ → ℕ) (accs : List Account) : Type 0 where
   pub ordered : rising number accs ≡ true
-  pub sound : All Sound accs
+  pub sound : AllByRecursion Sound accs
   pub known_if : (n : ℕ) → known n accs ≡ opened n
   pub suppliers : (n : ℕ) → supplier_of n accs ≡ supplier n
   pub readings : (n : ℕ) → reading_of n accs ≡ reading n

@@ -1,7 +1,7 @@
 -- The law over every run.
 use Rattle.std.proofs.Common.{◌≡◌, ◌<◌, ◌≤◌, true, cond, eqb, List, [], ◌∷◌, ◌++◌, map, Some, ap, ◌∙◌, subst}
 use mathlib.Core.Path.{fun_ext}
-use Rattle.std.specs.List.{AllByRecursion as All}
+use Rattle.std.specs.List.{AllByRecursion}
 use Rattle.std.proofs.lemmas.Bool.{false≢true}
 use Rattle.std.proofs.ByRecursion.{All-weaker}
 use Rattle.std.proofs.lemmas.List.{append-nil, append_cancel_left}
@@ -43,7 +43,7 @@ balanced h s i =
       statements = by_group 65536 (λ r. r.supplier) (λ r. r.cents) s.rows (All-weaker InRange (λ r. r.supplier < 65536) (λ r x. x.1) s.rows i.rows);
     }
 
-all_both : {X : Type 0} (P Q R : X → Type 0) → ((x : X) → P x → Q x → R x) → (xs : List X) → All P xs → All Q xs → All R xs
+all_both : {X : Type 0} (P Q R : X → Type 0) → ((x : X) → P x → Q x → R x) → (xs : List X) → AllByRecursion P xs → AllByRecursion Q xs → AllByRecursion R xs
 all_both P Q R f [] a b = tt
 all_both P Q R f (x ∷ xs) a b = (f x a.0 b.0, all_both P Q R f xs a.1 b.1)
 
@@ -64,13 +64,13 @@ settles_ended s (Close c) ok e = absurd (false≢true e)
 settles_ended s (Post c) ok e = absurd (false≢true e)
 
 module _ (k : Count) (s : State) (i : Holds k s) where
-  charged : (more new : List Row) → All (λ r. r.supplier ≡ k.supplier r.account) more → s.rows ++ more ≡ s.rows ++ new → All (λ r. r.supplier ≡ k.supplier r.account) new
-  charged more new a e = subst (All (λ r. r.supplier ≡ k.supplier r.account)) (append_cancel_left s.rows more new e) a
+  charged : (more new : List Row) → AllByRecursion (λ r. r.supplier ≡ k.supplier r.account) more → s.rows ++ more ≡ s.rows ++ new → AllByRecursion (λ r. r.supplier ≡ k.supplier r.account) new
+  charged more new a e = subst (AllByRecursion (λ r. r.supplier ≡ k.supplier r.account)) (append_cancel_left s.rows more new e) a
 
-  unwritten : (new : List Row) → s.rows ≡ s.rows ++ new → All (λ r. r.supplier ≡ k.supplier r.account) new
+  unwritten : (new : List Row) → s.rows ≡ s.rows ++ new → AllByRecursion (λ r. r.supplier ≡ k.supplier r.account) new
   unwritten new e = charged [] new tt (append-nil s.rows ∙ e)
 
-  pub wrote : (c : Call) (rules : Rules) (new : List Row) → (done rules s c).rows ≡ s.rows ++ new → All (λ r. r.supplier ≡ k.supplier r.account) new
+  pub wrote : (c : Call) (rules : Rules) (new : List Row) → (done rules s c).rows ≡ s.rows ++ new → AllByRecursion (λ r. r.supplier ≡ k.supplier r.account) new
   wrote (BeginMonth c) rules new e = unwritten new e
   wrote (OpenAccount c) rules new e = unwritten new e
   wrote (MoveAccount c) rules new e = unwritten new e
@@ -86,7 +86,7 @@ module _ (k : Count) (s : State) (i : Holds k s) where
   wrote (Post c) rules new e = unwritten new e
 
 -- a row for every account
-paired : (R : Account → Row → Type 0) (row : Account → Row) (accounts : List Account) → All (λ a. R a (row a)) accounts → Paired R accounts (map row accounts)
+paired : (R : Account → Row → Type 0) (row : Account → Row) (accounts : List Account) → AllByRecursion (λ a. R a (row a)) accounts → Paired R accounts (map row accounts)
 paired R row [] a = tt
 paired R row (x ∷ xs) a = (a.0, paired R row xs a.1)
 
@@ -110,7 +110,7 @@ rows_answered k s i (Settle c) rules ok e new w =
 rows_answered k s i (Close c) rules ok e new w = absurd (false≢true e)
 rows_answered k s i (Post c) rules ok e new w = absurd (false≢true e)
 
-closed_in_band : (s : State) (c : Call) (rules : Rules) → closes c ≡ true → All (InBand s.month) (done rules s c).accounts
+closed_in_band : (s : State) (c : Call) (rules : Rules) → closes c ≡ true → AllByRecursion (InBand s.month) (done rules s c).accounts
 closed_in_band s (BeginMonth c) rules e = absurd (false≢true e)
 closed_in_band s (OpenAccount c) rules e = absurd (false≢true e)
 closed_in_band s (MoveAccount c) rules e = absurd (false≢true e)
@@ -124,7 +124,7 @@ closed_in_band s (Read c) rules e = absurd (false≢true e)
 closed_in_band s (Settle c) rules e = absurd (false≢true e)
 closed_in_band s (Close c) rules e = every s.accounts
   where
-    every : (xs : List Account) → All (InBand s.month) (map (closed_account s) xs)
+    every : (xs : List Account) → AllByRecursion (InBand s.month) (map (closed_account s) xs)
     every [] = tt
     every (x ∷ xs) = (in_band s x, every xs)
 closed_in_band s (Post c) rules e = absurd (false≢true e)

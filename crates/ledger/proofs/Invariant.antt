@@ -1,6 +1,6 @@
 -- What holds of the book and the gas count together, and what it gives.
 use Rattle.std.proofs.Common.{◌≡◌, ℕ, ◌+◌, ◌<◌, ◌≤◌, Bool, true, false, ◌||◌, [], refl}
-use Rattle.std.specs.List.{AllByRecursion as All}
+use Rattle.std.specs.List.{AllByRecursion}
 use Rattle.std.proofs.lemmas.Bool.{false≢true}
 use Rattle.ledger.specs.declared.records.Row.{Row}
 use Rattle.ledger.specs.declared.records.Stage.{Stage}
@@ -29,7 +29,7 @@ pub record Holds (k : Count) (s : State) : Type 0 where
   pub day : in_day s.stage ≡ true → s.settled + 1 ≤ 31
   pub unopened : (n : ℕ) → k.opened n ≡ false → k.opening n ≡ 0
   pub even : (n : ℕ) → Even k s.accounts s.rows n
-  pub rows : All InRange s.rows
+  pub rows : AllByRecursion InRange s.rows
 
 pub holds_fresh : (a l p r : ℕ) → Holds nothing (fresh_book a l p r)
 holds_fresh a l p r = record {

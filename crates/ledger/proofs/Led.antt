@@ -3,7 +3,7 @@ use Rattle.std.proofs.Common.{◌≡◌, ℕ, zero, suc, ◌<◌, Bool, true, fa
 use mathlib.Core.Bool.{Bool-set}
 use mathlib.Core.Logic.{∥∥₁_elim, ∥∥₁_map}
 use lib.Signed.{le_z}
-use Rattle.std.specs.List.{AllByRecursion as All}
+use Rattle.std.specs.List.{AllByRecursion}
 use Rattle.std.proofs.lemmas.Int.{ints}
 use Rattle.std.proofs.lemmas.Bool.Decides.{nat_tests}
 use Rattle.std.proofs.lemmas.Bool.{and_from, le-leb, lt-ltb}
@@ -28,7 +28,7 @@ use Rattle.ledger.proofs.Lines.{whole_limit}
 use Rattle.ledger.proofs.Balance.{holds, balanced, straight_all_along}
 use Rattle.ledger.proofs.Safety.{safe, close_priced}
 
-each_of : {X : Type 0} (P : X → Type 0) (test : X → Bool) → ((x : X) → P x → test x ≡ true) → (xs : List X) → All P xs → each test xs ≡ true
+each_of : {X : Type 0} (P : X → Type 0) (test : X → Bool) → ((x : X) → P x → test x ≡ true) → (xs : List X) → AllByRecursion P xs → each test xs ≡ true
 each_of P test f [] a = refl
 each_of P test f (x ∷ xs) a = and_from _ _ (f x a.0) (each_of P test f xs a.1)
 

@@ -1,6 +1,6 @@
 -- The book's lines and the count's agree, one line after another.
 use Rattle.std.proofs.Common.{◌≡◌, ℕ, ◌+◌, ◌*◌, ◌<◌, ◌≤◌, Bool, cond, ◌&&◌, eqb, List, [], ◌∷◌, Some, None, Option, sym, refl, ap, ◌∙◌, ap₂, ⊎_elim, arith}
-use Rattle.std.specs.List.{AllByRecursion as All}
+use Rattle.std.specs.List.{AllByRecursion}
 use Rattle.std.proofs.lemmas.Bool.Decides.{nat_tests}
 use Rattle.std.proofs.lemmas.Bool.{cases_eq}
 use Rattle.calls.specs.declared.fields.Line.{Line}
@@ -16,13 +16,13 @@ abbrev pub Small : Line → Type 0
 Small l = (0 < l.pipeline) × (l.pipeline < 9) × (l.therms ≤ 1000000)
 
 pub record LinesAgree (supplier : ℕ → ℕ) (lines : ℕ → ℕ → ℕ) (book : List Line) : Type 0 where
-  pub small : All Small book
+  pub small : AllByRecursion Small book
   pub each : (n p : ℕ) → p < 9 → therms_at n p book ≡ lines n p
   pub whole : (n : ℕ) → standing (of_account n) book ≡ below 9 (lines n)
   pub totals : (s p : ℕ) → p < 9 → standing (of_supplier supplier s p) book ≡ counted supplier lines s p
 
 -- what a test picks of the line that stood there
-was : (c : ℕ → ℕ → Bool) (x : Line) (ls : List Line) → All Small ls → Small x → (o : Option Line) → at line_key (line_key x) ls ≡ o → shown (picked c) o ≡ cond (c x.account x.pipeline) (shown (λ l. l.therms) o) 0
+was : (c : ℕ → ℕ → Bool) (x : Line) (ls : List Line) → AllByRecursion Small ls → Small x → (o : Option Line) → at line_key (line_key x) ls ≡ o → shown (picked c) o ≡ cond (c x.account x.pipeline) (shown (λ l. l.therms) o) 0
 was c x ls small sx None e = grind arith
 was c x ls small sx (Some y) e =
     let sy = all_at line_key Small (line_key x) ls y small e in
@@ -31,7 +31,7 @@ was c x ls small sx (Some y) e =
     let p : y.pipeline ≡ x.pipeline = omega arith in
     ap (λ b. cond b y.therms 0) (ap₂ c a p)
 
-pub standing_put : (c : ℕ → ℕ → Bool) (x : Line) (ls : List Line) → All Small ls → Small x → standing c (put line_key x ls) + cond (c x.account x.pipeline) (therms_at x.account x.pipeline ls) 0 ≡ standing c ls + cond (c x.account x.pipeline) x.therms 0
+pub standing_put : (c : ℕ → ℕ → Bool) (x : Line) (ls : List Line) → AllByRecursion Small ls → Small x → standing c (put line_key x ls) + cond (c x.account x.pipeline) (therms_at x.account x.pipeline ls) 0 ≡ standing c ls + cond (c x.account x.pipeline) x.therms 0
 standing_put c x ls small sx =
     let w = was c x ls small sx (at line_key (line_key x) ls) refl in
     let s = added_put line_key (picked c) x ls in
@@ -83,7 +83,7 @@ module _ (supplier : ℕ → ℕ) (lines : ℕ → ℕ → ℕ) (book : List Lin
       }
 
 -- each line of a reallocation in turn
-pub lines_puts : {supplier : ℕ → ℕ} (xs : List Line) {lines : ℕ → ℕ → ℕ} {book : List Line} → All (λ x. (x.account < 1000000000) × Small x) xs → LinesAgree supplier lines book → LinesAgree supplier (set_lines lines xs) (put_lines xs book)
+pub lines_puts : {supplier : ℕ → ℕ} (xs : List Line) {lines : ℕ → ℕ → ℕ} {book : List Line} → AllByRecursion (λ x. (x.account < 1000000000) × Small x) xs → LinesAgree supplier lines book → LinesAgree supplier (set_lines lines xs) (put_lines xs book)
 lines_puts [] ok i = i
 lines_puts {supplier} (x ∷ xs) {lines} {book} ok i = lines_puts xs ok.1 (lines_put supplier lines book x ok.0.0 ok.0.1 i)
 
@@ -108,7 +108,7 @@ lines_idle {supplier} {lines} {book} none i other = record {
 }
 
 -- no account's lines come to more than eight full ones
-at_most : (ls : List Line) (n p : ℕ) → p < 9 → All Small ls → (o : Option Line) → at line_key (n * 16 + p) ls ≡ o → (shown (λ l. l.therms) o ≤ 1000000) × (p ≡ 0 → shown (λ l. l.therms) o ≡ 0)
+at_most : (ls : List Line) (n p : ℕ) → p < 9 → AllByRecursion Small ls → (o : Option Line) → at line_key (n * 16 + p) ls ≡ o → (shown (λ l. l.therms) o ≤ 1000000) × (p ≡ 0 → shown (λ l. l.therms) o ≡ 0)
 at_most ls n p h small None e = (omega arith, λ _. refl)
 at_most ls n p h small (Some y) e =
     let sy = all_at line_key Small (n * 16 + p) ls y small e in

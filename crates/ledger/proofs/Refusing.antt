@@ -1,6 +1,6 @@
 -- The first condition that holds is that of the smallest number.
 use Rattle.std.proofs.Common.{◌≡◌, ℕ, zero, suc, ◌<◌, Bool, true, false, cond, List, [], ◌∷◌, length, Some, None, Option, refl, ap, ◌∙◌, arith, lit<}
-use Rattle.std.specs.List.{HoldsAt, AllByRecursion as All}
+use Rattle.std.specs.List.{HoldsAt, AllByRecursion}
 use Rattle.std.proofs.ByRecursion.{All-weaker}
 use Rattle.calls.specs.declared.fields.Call.{Call}
 use Rattle.calls.specs.declared.fields.Call.TheVariants.{BeginMonth, OpenAccount, MoveAccount, SetGasCost, SetPrice, BeginDay, Nominate, EndDay, Reallocate, Read, Settle, Close, Post}
@@ -14,7 +14,7 @@ abbrev Rises : ℕ → List Entry → Type 0
 Rises n [] = Unit {0}
 Rises n (e ∷ es) = (n < e.number) × Rises e.number es
 
-above : (n : ℕ) (es : List Entry) → Rises n es → All (λ e. n < e.number) es
+above : (n : ℕ) (es : List Entry) → Rises n es → AllByRecursion (λ e. n < e.number) es
 above n [] r = tt
 above n (e ∷ es) r = (r.0, All-weaker (λ d. e.number < d.number) (λ d. n < d.number) (λ d h. omega (arith, r.0)) es (above e.number es r.1))
 
@@ -26,7 +26,7 @@ sooner x e es none s = record {
   none_before = ((λ h. none), s.none_before);
 }
 
-at_head : (x : Refusal) (e : Entry) (es : List Entry) → All (λ d. e.number < d.number) es → (first es ≡ Some x → Smallest es x)
+at_head : (x : Refusal) (e : Entry) (es : List Entry) → AllByRecursion (λ d. e.number < d.number) es → (first es ≡ Some x → Smallest es x)
     → (o : Condition) → e.condition ≡ o → or_else o (first es) ≡ Some x → Smallest (e ∷ es) x
 at_head x e es up later None q g = sooner x e es q (later g)
 at_head x e es up later (Some y) q g = record {
@@ -41,13 +41,13 @@ found n [] x r h = let bad : ◌≡◌ {A = ℕ} 0 1 = cc in absurd (omega arith
 found n (e ∷ es) x r h = at_head x e es (above e.number es r.1) (found e.number es x r.1) e.condition refl h
 
 -- an entry of the tail has a greater number
-later_number : (n : ℕ) (es : List Entry) (d : Entry) (k : ℕ) → All (λ e. n < e.number) es → k < length es → HoldsAt (λ e. e ≡ d) es k → n < d.number
+later_number : (n : ℕ) (es : List Entry) (d : Entry) (k : ℕ) → AllByRecursion (λ e. n < e.number) es → k < length es → HoldsAt (λ e. e ≡ d) es k → n < d.number
 later_number n [] d k a lt at = absurd (omega arith)
 later_number n (e ∷ es) d zero a lt at = let q = ap (λ x. x.number) (at d) in omega (arith, a.0)
 later_number n (e ∷ es) d (suc k) a lt at = later_number n es d k a.1 (omega arith) at
 
 holding : (n : ℕ) (es : List Entry) (x : Refusal) (d : Entry) (k : ℕ) → Rises n es → k < length es → HoldsAt (λ e. e ≡ d) es k → d.condition ≡ Some x
-    → All (λ e. e.number < d.number → e.condition ≡ None) es → first es ≡ Some x
+    → AllByRecursion (λ e. e.number < d.number → e.condition ≡ None) es → first es ≡ Some x
 holding n [] x d k r lt at h none = absurd (omega arith)
 holding n (e ∷ es) x d zero r lt at h none = ap (λ o. or_else o (first es)) (ap (λ y. y.condition) (at d) ∙ h)
 holding n (e ∷ es) x d (suc k) r lt at h none =
@@ -81,7 +81,7 @@ either_own : (n : ℕ) (b : Bool) (o : Condition) → Holding n o → Holding n 
 either_own n true o h = h
 either_own n false o h = tt
 
-owns : (s : State) (c : Call) → All Own (table s c)
+owns : (s : State) (c : Call) → AllByRecursion Own (table s c)
 owns s c = (
   refuse_own 3 _ _ refl,
   (

@@ -1,6 +1,6 @@
 -- How long tables become.
 use Rattle.std.proofs.Common.{◌≡◌, ℕ, ◌+◌, ◌*◌, ◌<◌, ◌≤◌, true, false, cond, not, eqb, List, [], ◌∷◌, length, is_some, refl, arith}
-use Rattle.std.specs.List.{AllByRecursion as All}
+use Rattle.std.specs.List.{AllByRecursion}
 use Rattle.std.proofs.lemmas.Bool.Decides.{nat_tests}
 use Rattle.register.specs.Keys.{at, put, rising}
 use Rattle.calls.specs.declared.fields.Line.{Line}
@@ -20,7 +20,7 @@ length_put key x [] = refl
 length_put key x (y ∷ ys) = let ih = length_put key x ys in grind (arith, nat_tests)
 
 -- a line that is put changes nothing of the others
-absent_kept : (x : Line) (lines xs : List Line) → All (λ y. line_key x ≡ line_key y → ⊥) xs → count_absent (put line_key x lines) xs ≡ count_absent lines xs
+absent_kept : (x : Line) (lines xs : List Line) → AllByRecursion (λ y. line_key x ≡ line_key y → ⊥) xs → count_absent (put line_key x lines) xs ≡ count_absent lines xs
 absent_kept x lines [] d = refl
 absent_kept x lines (y ∷ ys) d =
     let ih = absent_kept x lines ys d.1 in
@@ -37,7 +37,7 @@ length_puts (x ∷ xs) lines d =
     omega arith
 
 -- rising keys above one number and up to another are no more than what lies between
-pub rising_count : {X : Type 0} (key : X → ℕ) (low high : ℕ) (xs : List X) → rising key xs ≡ true → All (λ x. low < key x) xs → All (λ x. key x ≤ high) xs → length xs + low ≤ high + cond (eqb (length xs) 0) low 0
+pub rising_count : {X : Type 0} (key : X → ℕ) (low high : ℕ) (xs : List X) → rising key xs ≡ true → AllByRecursion (λ x. low < key x) xs → AllByRecursion (λ x. key x ≤ high) xs → length xs + low ≤ high + cond (eqb (length xs) 0) low 0
 rising_count key low high [] r a b = grind (arith, nat_tests)
 rising_count key low high (x ∷ xs) r a b =
     let p = rising_parts key x xs r in
@@ -46,6 +46,6 @@ rising_count key low high (x ∷ xs) r a b =
     let top = b.0 in
     grind (arith, nat_tests)
 
-pub index_total_high : (prices : List PriceQuote) → All (λ p. p.index ≤ 1000000) prices → index_total prices ≤ length prices * 1000000
+pub index_total_high : (prices : List PriceQuote) → AllByRecursion (λ p. p.index ≤ 1000000) prices → index_total prices ≤ length prices * 1000000
 index_total_high [] a = omega arith
 index_total_high (p ∷ ps) a = let ih = index_total_high ps a.1 in let h = a.0 in omega arith

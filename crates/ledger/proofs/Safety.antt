@@ -1,6 +1,6 @@
 -- Each accepted call leaves the book safe.
 use Rattle.std.proofs.Common.{◌≡◌, ℕ, ◌+◌, ◌<◌, ◌≤◌, true, false, ◌&&◌, leb, List, [], ◌∷◌, ◌++◌, map, length, is_some, Some, None, Option, sym, refl, ap, ◌∙◌, subst, ⊎_elim, arith}
-use Rattle.std.specs.List.{AllByRecursion as All}
+use Rattle.std.specs.List.{AllByRecursion}
 use Rattle.std.proofs.lemmas.Bool.Decides.{nat_tests}
 use Rattle.std.proofs.lemmas.Bool.{and_parts, and_from, false≢true, not-false, eqb-true, leb-true, cases_eq}
 use Rattle.std.proofs.ByRecursion.{All-weaker, All-append, All-map}
@@ -96,14 +96,14 @@ rise_puts : (xs lines : List Line) → rising line_key lines ≡ true → rising
 rise_puts [] lines r = r
 rise_puts (x ∷ xs) lines r = rise_puts xs (put_line x lines) (rising_put line_key x lines r)
 
-within_puts : (xs lines : List Line) → All (λ l. line_within l ≡ true) xs → All (λ l. line_within l ≡ true) lines → All (λ l. line_within l ≡ true) (put_lines xs lines)
+within_puts : (xs lines : List Line) → AllByRecursion (λ l. line_within l ≡ true) xs → AllByRecursion (λ l. line_within l ≡ true) lines → AllByRecursion (λ l. line_within l ≡ true) (put_lines xs lines)
 within_puts [] lines a b = b
 within_puts (x ∷ xs) lines a b = within_puts xs (put_line x lines) a.1 (all_put line_key (λ l. line_within l ≡ true) x lines a.0 b)
 
 -- rows
 
 rows_more : {room : ℕ} {rows : List Row} (row : Account → Row) (accounts : List Account) → length rows + length accounts ≤ room → RowsSafe room rows
-    → All (λ a. RowBound (row a).cents) accounts → RowsSafe room (rows ++ map row accounts)
+    → AllByRecursion (λ a. RowBound (row a).cents) accounts → RowsSafe room (rows ++ map row accounts)
 rows_more {room} {rows} row accounts fits x bounded = record {
   fit = let a = length-append rows (map row accounts) in let b = length-map accounts row in omega arith;
   each = All-append (λ r. RowBound r.cents) rows (map row accounts) x.each (All-map (λ r. RowBound r.cents) row accounts bounded);

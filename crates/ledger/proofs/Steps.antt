@@ -1,6 +1,6 @@
 -- Each accepted call keeps the invariant.
 use Rattle.std.proofs.Common.{◌≡◌, ℕ, zero, suc, ◌+◌, ◌<◌, Bool, true, false, cond, ◌||◌, List, [], ◌∷◌, map, is_some, Some, None, Option, sym, refl, ap, ◌∙◌, subst, subst₂, arith}
-use Rattle.std.specs.List.{AllByRecursion as All}
+use Rattle.std.specs.List.{AllByRecursion}
 use Rattle.std.proofs.lemmas.Bool.Decides.{nat_tests}
 use Rattle.std.proofs.lemmas.Bool.{and_parts, both_ways, false≢true, not-false, eqb-true}
 use Rattle.std.proofs.ByRecursion.{All-weaker, All-append}
@@ -87,7 +87,7 @@ pub unnamed : (o : Option Line) → refuse_naming (λ l. LineRepeated l.account)
 unnamed None h = refl
 unnamed (Some l) h = absurd (let bad : ◌≡◌ {A = ℕ} 0 1 = cc in omega arith)
 
-pub each_all : {X : Type 0} (f : X → Bool) (xs : List X) → each f xs ≡ true → All (λ x. f x ≡ true) xs
+pub each_all : {X : Type 0} (f : X → Bool) (xs : List X) → each f xs ≡ true → AllByRecursion (λ x. f x ≡ true) xs
 each_all f [] h = tt
 each_all f (x ∷ xs) h = let both = and_parts (f x) (each f xs) h in (both.0, each_all f xs both.1)
 
@@ -95,15 +95,15 @@ pub named_within : (c : Reallocation) → within (Reallocate c) ≡ true → eac
 named_within c h = (and_parts _ (each line_within (named_lines c)) (and_parts _ (each is_blank (places_past c)) h).0).1
 
 -- no line lies on pipeline 0
-none_on_zero : (xs : List Line) → All Small xs → standing (on_pipeline 0) xs ≡ 0
+none_on_zero : (xs : List Line) → AllByRecursion Small xs → standing (on_pipeline 0) xs ≡ 0
 none_on_zero [] a = refl
 none_on_zero (x ∷ xs) a = let ih = none_on_zero xs a.1 in let h = a.0.0 in grind (arith, nat_tests)
 
-none_stood_on_zero : (ls xs : List Line) → All Small xs → standing (on_pipeline 0) (map (as_it_stands ls) xs) ≡ 0
+none_stood_on_zero : (ls xs : List Line) → AllByRecursion Small xs → standing (on_pipeline 0) (map (as_it_stands ls) xs) ≡ 0
 none_stood_on_zero ls [] a = refl
 none_stood_on_zero ls (x ∷ xs) a = let ih = none_stood_on_zero ls xs a.1 in let h = a.0.0 in grind (arith, nat_tests)
 
-in_pipelines : (P : ℕ → Type 0) → All P pipelines → (p : ℕ) → p < 8 → P (suc p)
+in_pipelines : (P : ℕ → Type 0) → AllByRecursion P pipelines → (p : ℕ) → p < 8 → P (suc p)
 in_pipelines P a zero h = a.0
 in_pipelines P a (suc zero) h = a.1.0
 in_pipelines P a (suc (suc zero)) h = a.1.1.0
@@ -115,7 +115,7 @@ in_pipelines P a (suc (suc (suc (suc (suc (suc (suc zero))))))) h = a.1.1.1.1.1.
 in_pipelines P a (suc (suc (suc (suc (suc (suc (suc (suc p)))))))) h = absurd (omega arith)
 
 -- on every pipeline the named lines come to what stood in their places
-level_on : (s : State) (xs : List Line) → All Small xs → All (λ p. changes s xs p ≡ false) pipelines → (p : ℕ) → p < 9
+level_on : (s : State) (xs : List Line) → AllByRecursion Small xs → AllByRecursion (λ p. changes s xs p ≡ false) pipelines → (p : ℕ) → p < 9
     → standing (on_pipeline p) xs ≡ standing (on_pipeline p) (map (as_it_stands s.lines) xs)
 level_on s xs small a zero h = none_on_zero xs small ∙ sym (none_stood_on_zero s.lines xs small)
 level_on s xs small a (suc p) h = eqb-true _ _ (not-false _ (in_pipelines (λ q. changes s xs q ≡ false) a p (omega arith)))
@@ -307,8 +307,8 @@ module _ (k : Count) (s : State) (i : Holds k s) where
   step_reallocates c rules ok =
       let xs = named_lines c in
       let fields = each_all line_within xs (named_within c ok.fields) in
-      let small : All (λ x. (x.account < 1000000000) × Small x) xs = All-weaker (λ x. line_within x ≡ true) _ (λ x h. (grind (arith, nat_tests), (grind (arith, nat_tests), grind (arith, nat_tests), grind (arith, nat_tests)))) xs fields in
-      let theirs : All (λ x. k.supplier x.account ≡ c.supplier) xs = All-weaker (λ x. supplier_of x.account s.accounts ≡ c.supplier) _ (λ x h. sym (agree.suppliers x.account) ∙ h) xs ok.own in
+      let small : AllByRecursion (λ x. (x.account < 1000000000) × Small x) xs = All-weaker (λ x. line_within x ≡ true) _ (λ x h. (grind (arith, nat_tests), (grind (arith, nat_tests), grind (arith, nat_tests), grind (arith, nat_tests)))) xs fields in
+      let theirs : AllByRecursion (λ x. k.supplier x.account ≡ c.supplier) xs = All-weaker (λ x. supplier_of x.account s.accounts ≡ c.supplier) _ (λ x h. sym (agree.suppliers x.account) ∙ h) xs ok.own in
       let once = distinct [] xs (unnamed (first_repeated [] xs) ok.not_given) in
       let after = lines_puts xs small i.lines in
       record {

@@ -1,6 +1,6 @@
 -- Sums below a bound, and statements.
 use Rattle.std.proofs.Common.{◌≡◌, ℕ, zero, suc, ◌+◌, ◌*◌, ◌<◌, ◌≤◌, cond, eqb, List, [], ◌∷◌, ◌++◌, map, ℤ, pos, ◌+ℤ◌, sym, refl, ap, ◌∙◌, zero-add, arith}
-use Rattle.std.specs.List.{AllByRecursion as All}
+use Rattle.std.specs.List.{AllByRecursion}
 use Rattle.std.proofs.lemmas.Bool.Decides.{nat_tests}
 use Rattle.std.proofs.lemmas.Int.{ints}
 use Rattle.ledger.specs.Sums.{added, owed, below, belowℤ}
@@ -74,7 +74,7 @@ belowℤ_one (suc n) k z h =
     let none = belowℤ_none n k z in
     grind (arith, nat_tests, ints)
 
-pub by_group : {X : Type 0} (n : ℕ) (group : X → ℕ) (f : X → ℤ) (xs : List X) → All (λ x. group x < n) xs → belowℤ n (λ s. owed (λ x. cond (eqb (group x) s) (f x) (pos 0)) xs) ≡ owed f xs
+pub by_group : {X : Type 0} (n : ℕ) (group : X → ℕ) (f : X → ℤ) (xs : List X) → AllByRecursion (λ x. group x < n) xs → belowℤ n (λ s. owed (λ x. cond (eqb (group x) s) (f x) (pos 0)) xs) ≡ owed f xs
 by_group n group f [] a = belowℤ_zero n
 by_group n group f (x ∷ xs) a =
     belowℤ_add n (λ s. cond (eqb (group x) s) (f x) (pos 0)) (λ s. owed (λ y. cond (eqb (group y) s) (f y) (pos 0)) xs)

@@ -1,7 +1,7 @@
 -- A call that makes every account anew and writes a row for each: the settling of a day, and the close of a month.
 -- What is left of each is one fact of one account.
 use Rattle.std.proofs.Common.{◌≡◌, ℕ, ◌+◌, Bool, cond, eqb, List, ◌++◌, map, Some, None, Option, sym, refl, ap, ◌∙◌, arith}
-use Rattle.std.specs.List.{AllByRecursion as All}
+use Rattle.std.specs.List.{AllByRecursion}
 use Rattle.std.proofs.ByRecursion.{All-weaker, All-map}
 use Rattle.ledger.specs.declared.records.Account.{Account}
 use Rattle.ledger.specs.declared.records.Row.{Row}
@@ -52,12 +52,12 @@ module _ {opened : ℕ → Bool} {supplier reading : ℕ → ℕ} {accs : List A
       let stored = at_map number new l.same_number (λ a. a.storage) n accs in
       omega arith
 
-  pub rows_in_range : All InRange (map row accs)
+  pub rows_in_range : AllByRecursion InRange (map row accs)
   rows_in_range =
       All-map InRange row accs
       (All-weaker Sound (λ a. InRange (row a)) (λ a x. (omega (arith, x.from_one, l.row_supplier a), omega (arith, x.to_limit, l.row_supplier a))) accs agree.sound)
 
-  pub rows_charged : All (λ r. r.supplier ≡ supplier r.account) (map row accs)
+  pub rows_charged : AllByRecursion (λ r. r.supplier ≡ supplier r.account) (map row accs)
   rows_charged =
       All-map (λ r. r.supplier ≡ supplier r.account) row accs
       (All-weaker (λ a. at number (number a) accs ≡ Some a) (λ a. (row a).supplier ≡ supplier (row a).account)

@@ -1,6 +1,6 @@
 -- What is claimed of the book over all runs.
 use Rattle.std.specs.Prelude.{◌≡◌, ℕ, ◌+◌, ◌<◌, ◌≤◌, Bool, true, false, cond, List, [], ◌∷◌, ◌++◌, ℤ, pos, ◌==◌}
-use Rattle.std.specs.List.{AllByRecursion as All}
+use Rattle.std.specs.List.{AllByRecursion}
 use Rattle.tariff.specs.declared.question.Figures.{Figures}
 use Rattle.tariff.specs.Figures.{fair}
 use Rattle.tariff.specs.Published.{maxima_of, band_of}
@@ -45,9 +45,9 @@ pub record Balanced (h : History) (s : State) : Type 0 where
   pub kept : (n : ℕ) → (count h).opened n ≡ true → known n s.accounts ≡ true
   pub even : (n : ℕ) → (count h).opened n ≡ true → Even (count h) s.accounts s.rows n
   -- storage is within zero and capacity
-  pub stored : All (λ a. a.storage ≤ a.capacity) s.accounts
+  pub stored : AllByRecursion (λ a. a.storage ≤ a.capacity) s.accounts
   -- each row is counted in one statement
-  pub once : All (λ r. below 65536 (λ t. cond (r.supplier == t) 1 0) ≡ 1) s.rows
+  pub once : AllByRecursion (λ r. below 65536 (λ t. cond (r.supplier == t) 1 0) ≡ 1) s.rows
   pub statements : belowℤ 65536 (statement s.rows) ≡ owed (λ r. r.cents) s.rows
 
 -- a row is what the day's rule answered to the account's question, at the tariff's cents; the question is put of what the gas count has
@@ -94,11 +94,11 @@ pub record Straight (h : History) (s : State) (c : Call) (rules : Rules) : Type 
   pub nominated : settles c ≡ true → (supplier pipeline : ℕ) → pipeline < 9
       → standing (of_supplier (λ n. supplier_of n s.accounts) supplier pipeline) s.lines ≡ (count h).noted supplier pipeline
   -- a row is its supplier's, who had the account when it was written
-  pub charged : (new : List Row) → (done rules s c).rows ≡ s.rows ++ new → All (λ r. r.supplier ≡ (count h).supplier r.account) new
+  pub charged : (new : List Row) → (done rules s c).rows ≡ s.rows ++ new → AllByRecursion (λ r. r.supplier ≡ (count h).supplier r.account) new
   -- a settling writes a row for every account, in rising number
   pub answered : settles c ≡ true → (new : List Row) → (done rules s c).rows ≡ s.rows ++ new → Paired (Answered (count h) s rules) s.accounts new
   -- a close leaves every account within the month's band
-  pub banded : closes c ≡ true → All (InBand s.month) (done rules s c).accounts
+  pub banded : closes c ≡ true → AllByRecursion (InBand s.month) (done rules s c).accounts
 
 -- at every accepted call of a run
 abbrev pub StraightAllAlong : {h : History} {s : State} → Leads h s → Type 0
@@ -111,4 +111,4 @@ LawOverRuns = (h : History) (s : State) (l : Leads h s) → Balanced h s × Stra
 
 -- so the statements below this number are all
 abbrev pub SuppliersBelow : ℕ → Type 0
-SuppliersBelow n = (h : History) (s : State) → Leads h s → All (λ r. r.supplier < n) s.rows
+SuppliersBelow n = (h : History) (s : State) → Leads h s → AllByRecursion (λ r. r.supplier < n) s.rows

@@ -1,7 +1,7 @@
 -- What the calls need to be safe, wherever a run stands: keys that rise, tables within their room, therms and cents within bounds, and a
 -- price for every settled day.
 use Rattle.std.specs.Prelude.{◌≡◌, ℕ, ◌<◌, ◌≤◌, Bool, true, false, ◌&&◌, ◌||◌, List, length, is_some, None, Option, nat_le}
-use Rattle.std.specs.List.{AllByRecursion as All}
+use Rattle.std.specs.List.{AllByRecursion}
 use Rattle.tariff.specs.Calendar.{in_calendar, days_in}
 use Rattle.tariff.specs.Loss.{most_loss}
 use Rattle.tariff.specs.Prices.{most_price}
@@ -26,22 +26,22 @@ account_within a =
 pub record AccountsSafe (room : ℕ) (accounts : List Account) : Type 0 where
   pub rise : rising number accounts ≡ true
   pub fit : length accounts ≤ room
-  pub each : All (λ a. account_within a ≡ true) accounts
+  pub each : AllByRecursion (λ a. account_within a ≡ true) accounts
 
 pub record LinesSafe (room : ℕ) (lines : List Line) : Type 0 where
   pub rise : rising line_key lines ≡ true
   pub fit : length lines ≤ room
-  pub each : All (λ l. line_within l ≡ true) lines
+  pub each : AllByRecursion (λ l. line_within l ≡ true) lines
 
 pub record PricesSafe (room days : ℕ) (prices : List PriceQuote) : Type 0 where
   pub rise : rising price_day prices ≡ true
   pub fit : length prices ≤ room
-  pub each : All (λ p. (price_within p && nat_le p.day days) ≡ true) prices
+  pub each : AllByRecursion (λ p. (price_within p && nat_le p.day days) ≡ true) prices
 
 -- a million rows within this bound come to less than 64 bits hold
 pub record RowsSafe (room : ℕ) (rows : List Row) : Type 0 where
   pub fit : length rows ≤ room
-  pub each : All (λ r. RowBound r.cents) rows
+  pub each : AllByRecursion (λ r. RowBound r.cents) rows
 
 pub record CalendarSafe (stage : Stage) (year month settled : ℕ) : Type 0 where
   pub month_known : is_unopened stage ≡ false → in_calendar year month ≡ true

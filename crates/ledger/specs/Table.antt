@@ -1,6 +1,6 @@
 -- Which call is refused, and why. Every number has its condition; the smallest number whose condition holds is the refusal.
 use Rattle.std.specs.Prelude.{◌≡◌, ℕ, ◌+◌, ◌<◌, Bool, true, false, cond, not, ◌&&◌, ◌||◌, List, [], ◌∷◌, map, length, is_some, Some, None, Option, ◌==◌, nat_le, nat_lt}
-use Rattle.std.specs.List.{ContainsAt as Has, AllByRecursion as All}
+use Rattle.std.specs.List.{ContainsAt, AllByRecursion}
 use Rattle.tariff.specs.Calendar.{critical_season, following}
 use Rattle.calls.specs.declared.fields.Line.{Line}
 use Rattle.calls.specs.declared.fields.Call.{Call}
@@ -327,14 +327,14 @@ Own e = Holding e.number e.condition
 -- the refusal is that of a number whose condition holds, and no smaller number's does
 pub record Smallest (es : List Entry) (r : Refusal) : Type 0 where
   pub by : Entry
-  pub there : Has es by
+  pub there : ContainsAt es by
   pub holds : by.condition ≡ Some r
-  pub none_before : All (λ e. e.number < by.number → e.condition ≡ None) es
+  pub none_before : AllByRecursion (λ e. e.number < by.number → e.condition ≡ None) es
 
 -- a call is refused with a number exactly when that number's condition holds and no smaller one's does, and each number comes only
 -- under its condition
 pub record ByTheTable (s : State) (c : Call) : Type 0 where
-  pub own : All Own (table s c)
+  pub own : AllByRecursion Own (table s c)
   pub refused : (r : Refusal) → verdict s c ≡ Some r → Smallest (table s c) r
   pub refuses : (r : Refusal) → Smallest (table s c) r → verdict s c ≡ Some r
 

@@ -1,6 +1,6 @@
 -- What `at` and `put` come to where a key stands, and where it is missing.
 use Rattle.std.proofs.Common.{◌≡◌, ℕ, zero, suc, ◌<◌, ◌≤◌, true, eqb, ltb, List, [], ◌∷◌, length, get_or, take, drop, set, Some, None, sym, refl, ap, ◌∙◌, arith}
-use Rattle.std.specs.List.{insert, AllByRecursion as All}
+use Rattle.std.specs.List.{insert, AllByRecursion}
 use Rattle.std.proofs.ByRecursion.{All-weaker}
 use Rattle.std.proofs.lemmas.Bool.{and_from, and_parts, eq-eqb, ne_eqb, lt-ltb, le-ltb, eqb-true, eqb-false, ltb-true, ltb-false, cond-true, cond-false, cond_both}
 use Rattle.register.specs.Keys.{at, put, all_above, rising}
@@ -11,7 +11,7 @@ module _ {X : Type 0} (key : X → ℕ) where
   past : (x : X) (xs : List X) (m : ℕ) (d : X) → rising key (x ∷ xs) ≡ true → m < length xs → key x < key (get_or xs m d)
   past x xs m d r lt = above_at xs m d (above_all key (key x) xs (and_parts (all_above key (key x) xs) (rising key xs) r).0) lt
     where
-      above_at : (ys : List X) (m : ℕ) (d : X) → All (λ y. key x < key y) ys → m < length ys → key x < key (get_or ys m d)
+      above_at : (ys : List X) (m : ℕ) (d : X) → AllByRecursion (λ y. key x < key y) ys → m < length ys → key x < key (get_or ys m d)
       above_at [] m d a lt = absurd (omega arith)
       above_at (y ∷ ys) zero d a lt = a.0
       above_at (y ∷ ys) (suc m) d a lt = above_at ys m d a.1 (omega arith)
@@ -24,7 +24,7 @@ module _ {X : Type 0} (key : X → ℕ) where
       cond-false _ _ _ (ne_eqb (key (get_or xs m d)) (key x) (λ e. omega arith)) ∙ cond-false _ _ _ (le-ltb (key (get_or xs m d)) (key x) (omega arith))
       ∙ at_found xs m d (and_parts (all_above key (key x) xs) (rising key xs) r).1 (omega arith)
 
-  pub at_missing : (k : ℕ) (xs : List X) (m : ℕ) → All (λ x. key x < k) (take m xs) → All (λ x. k < key x) (drop m xs) → at key k xs ≡ None
+  pub at_missing : (k : ℕ) (xs : List X) (m : ℕ) → AllByRecursion (λ x. key x < k) (take m xs) → AllByRecursion (λ x. k < key x) (drop m xs) → at key k xs ≡ None
   at_missing k [] m a b = refl
   at_missing k (x ∷ xs) zero a b =
       let up = b.0 in cond-false _ _ _ (ne_eqb k (key x) (λ e. omega arith)) ∙ cond-true _ _ _ (lt-ltb k (key x) up)
@@ -40,7 +40,7 @@ module _ {X : Type 0} (key : X → ℕ) where
       cond-false _ _ _ (ne_eqb (key x) (key y) (λ q. omega arith)) ∙ cond-false _ _ _ (le-ltb (key x) (key y) (omega arith))
       ∙ ap (λ l. y ∷ l) (put_found x ys m (and_parts (all_above key (key y) ys) (rising key ys) r).1 (omega arith) e)
 
-  pub put_missing : (x : X) (xs : List X) (m : ℕ) → m ≤ length xs → All (λ y. key y < key x) (take m xs) → All (λ y. key x < key y) (drop m xs) → put key x xs ≡ insert xs m x
+  pub put_missing : (x : X) (xs : List X) (m : ℕ) → m ≤ length xs → AllByRecursion (λ y. key y < key x) (take m xs) → AllByRecursion (λ y. key x < key y) (drop m xs) → put key x xs ≡ insert xs m x
   put_missing x [] zero le a b = refl
   put_missing x [] (suc m) le a b = absurd (omega arith)
   put_missing x (y ∷ ys) zero le a b =

@@ -1,16 +1,16 @@
 -- Where the keys below and above a given one stand in a list with rising keys.
 use Rattle.std.proofs.Common.{◌≡◌, ℕ, zero, suc, ◌+◌, ◌<◌, true, ltb, List, [], ◌∷◌, length, get_or, take, drop, refl, add-one, arith}
-use Rattle.std.specs.List.{AllByRecursion as All}
+use Rattle.std.specs.List.{AllByRecursion}
 use Rattle.std.proofs.ByRecursion.{All-weaker}
 use Rattle.std.proofs.lemmas.Bool.{and_from, and_parts, lt-ltb, ltb-true}
 use Rattle.register.specs.Keys.{all_above, rising}
 
 module _ {X : Type 0} (key : X → ℕ) where
-  pub above_all : (k : ℕ) (xs : List X) → all_above key k xs ≡ true → All (λ x. k < key x) xs
+  pub above_all : (k : ℕ) (xs : List X) → all_above key k xs ≡ true → AllByRecursion (λ x. k < key x) xs
   above_all k [] h = tt
   above_all k (x ∷ xs) h = let p = and_parts (ltb k (key x)) (all_above key k xs) h in (ltb-true _ _ p.0, above_all k xs p.1)
 
-  pub all_above_from : (k : ℕ) (xs : List X) → All (λ x. k < key x) xs → all_above key k xs ≡ true
+  pub all_above_from : (k : ℕ) (xs : List X) → AllByRecursion (λ x. k < key x) xs → all_above key k xs ≡ true
   all_above_from k [] a = refl
   all_above_from k (x ∷ xs) a = and_from _ _ (lt-ltb _ _ a.0) (all_above_from k xs a.1)
 
@@ -20,7 +20,7 @@ module _ {X : Type 0} (key : X → ℕ) where
   above_getD k (x ∷ xs) (suc m) d h lt = above_getD k xs m d (and_parts (ltb k (key x)) (all_above key k xs) h).1 (omega arith)
 
   -- up to a key below k, all are below k
-  up_to : (k : ℕ) (xs : List X) (m : ℕ) (d : X) → rising key xs ≡ true → m < length xs → key (get_or xs m d) < k → All (λ x. key x < k) (take (suc m) xs)
+  up_to : (k : ℕ) (xs : List X) (m : ℕ) (d : X) → rising key xs ≡ true → m < length xs → key (get_or xs m d) < k → AllByRecursion (λ x. key x < k) (take (suc m) xs)
   up_to k [] m d r lt le = absurd (omega arith)
   up_to k (x ∷ xs) zero d r lt le = (le, tt)
   up_to k (x ∷ xs) (suc m) d r lt le =
@@ -28,11 +28,11 @@ module _ {X : Type 0} (key : X → ℕ) where
       let up = above_getD (key x) xs m d p.0 (omega arith) in
       (omega arith, up_to k xs m d p.1 (omega arith) le)
 
-  pub lower : (k : ℕ) (xs : List X) (m : ℕ) (d : X) → rising key xs ≡ true → m < length xs → key (get_or xs m d) < k → All (λ x. key x < k) (take (m + 1) xs)
+  pub lower : (k : ℕ) (xs : List X) (m : ℕ) (d : X) → rising key xs ≡ true → m < length xs → key (get_or xs m d) < k → AllByRecursion (λ x. key x < k) (take (m + 1) xs)
   lower k xs m d r lt le = rw add-one (up_to k xs m d r lt le)
 
   -- from a key above k on, all are above k
-  pub higher : (k : ℕ) (xs : List X) (m : ℕ) (d : X) → rising key xs ≡ true → m < length xs → k < key (get_or xs m d) → All (λ x. k < key x) (drop m xs)
+  pub higher : (k : ℕ) (xs : List X) (m : ℕ) (d : X) → rising key xs ≡ true → m < length xs → k < key (get_or xs m d) → AllByRecursion (λ x. k < key x) (drop m xs)
   higher k [] m d r lt le = absurd (omega arith)
   higher k (x ∷ xs) zero d r lt le =
       let p = and_parts (all_above key (key x) xs) (rising key xs) r in

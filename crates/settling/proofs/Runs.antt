@@ -1,6 +1,6 @@
 -- An account's lines among lines that are sorted by account.
 use Rattle.std.proofs.Common.{◌≡◌, ℕ, zero, suc, ◌+◌, ◌*◌, ◌<◌, true, List, [], ◌∷◌, length, get_or, drop, sym, refl, ◌∙◌, subst, suc-add, arith}
-use Rattle.std.specs.List.{AllByRecursion as All}
+use Rattle.std.specs.List.{AllByRecursion}
 use Rattle.std.proofs.lemmas.Bool.Decides.{nat_tests}
 use Rattle.std.proofs.lemmas.List.{at_drop_more, drop_more}
 use Rattle.std.proofs.ByRecursion.{All-drop}
@@ -15,7 +15,7 @@ use Rattle.ledger.proofs.Found.{rising_parts}
 use Rattle.ledger.proofs.Steps.{each_all}
 
 -- past a place, all keys are above the one that stands there
-above_past : {X : Type 0} (key : X → ℕ) (xs : List X) (i : ℕ) (d : X) → rising key xs ≡ true → i < length xs → All (λ x. key (get_or xs i d) < key x) (drop (i + 1) xs)
+above_past : {X : Type 0} (key : X → ℕ) (xs : List X) (i : ℕ) (d : X) → rising key xs ≡ true → i < length xs → AllByRecursion (λ x. key (get_or xs i d) < key x) (drop (i + 1) xs)
 above_past key [] i d r h = absurd (omega arith)
 above_past key (x ∷ xs) zero d r h = (rising_parts key x xs r).0
 above_past key (x ∷ xs) (suc i) d r h = rw (suc-add i 1) (above_past key xs i d (rising_parts key x xs r).1 (omega arith))
@@ -24,7 +24,7 @@ pub opened : (n : ℕ) (ls : List Line) (i : ℕ) → i < length ls
     → standing (of_account n) (drop i ls) ≡ picked (of_account n) (get_or ls i blank_line) + standing (of_account n) (drop (i + 1) ls)
 opened n ls i h = at_drop_more (standing (of_account n)) ls i blank_line h
 
-none_of : (n : ℕ) (ls : List Line) → All (λ l. line_within l ≡ true) ls → All (λ l. n * 16 + 15 < line_key l) ls → standing (of_account n) ls ≡ 0
+none_of : (n : ℕ) (ls : List Line) → AllByRecursion (λ l. line_within l ≡ true) ls → AllByRecursion (λ l. n * 16 + 15 < line_key l) ls → standing (of_account n) ls ≡ 0
 none_of n [] w a = refl
 none_of n (l ∷ ls) w a =
     let rest = none_of n ls w.1 a.1 in
@@ -41,7 +41,7 @@ none_past n ls i r w h later =
 
 -- the lines of the accounts from a place on are all among those from another place on
 abbrev pub Ahead : List Line → ℕ → List Account → Type 0
-Ahead ls next accounts = All (λ a. standing (of_account a.number) (drop next ls) ≡ standing (of_account a.number) ls) accounts
+Ahead ls next accounts = AllByRecursion (λ a. standing (of_account a.number) (drop next ls) ≡ standing (of_account a.number) ls) accounts
 
 pub ahead_all : (ls : List Line) (accounts : List Account) → Ahead ls 0 accounts
 ahead_all ls [] = tt
@@ -59,9 +59,9 @@ pub ahead_more : (ls : List Line) (next next' : ℕ) (accounts : List Account) (
     → ((m : ℕ) → x.number < m → standing (of_account m) (drop next' ls) ≡ standing (of_account m) (drop next ls))
     → Ahead ls next (drop i accounts) → Ahead ls next' (drop (i + 1) accounts)
 ahead_more ls next next' accounts i x h stood rise later ahead =
-    let above : Account → Type 0 = λ a. All (λ b. a.number < b.number) (drop (i + 1) accounts) in
+    let above : Account → Type 0 = λ a. AllByRecursion (λ b. a.number < b.number) (drop (i + 1) accounts) in
     on (drop (i + 1) accounts) (subst above (sym stood) (above_past number accounts i x rise h)) (subst (Ahead ls next) (drop_more accounts i x h) ahead).1
   where
-    on : (bs : List Account) → All (λ b. x.number < b.number) bs → Ahead ls next bs → Ahead ls next' bs
+    on : (bs : List Account) → AllByRecursion (λ b. x.number < b.number) bs → Ahead ls next bs → Ahead ls next' bs
     on [] up ahead = tt
     on (b ∷ bs) up ahead = (later b.number up.0 ∙ ahead.0, on bs up.1 ahead.1)

@@ -6,8 +6,8 @@ use Rattle.settling.specs.Terms.{close_terms_within}
 use Rattle.settling.proofs.Passing.{each_both}
 use Rattle.settling.proofs.close.close_all.Goals as goal
 
-pub walk-all-requires : goal.walk-all-requires
-walk-all-requires c =
+pub walk_all-requires : goal.walk_all-requires
+walk_all-requires c =
     let accounts = held c.args.accounts.now in
     record {
       ready = each_both (λ _. close_terms_within c.args.terms.now) account_within accounts (each_always _ (λ _. c.requires.terms) accounts) c.requires.accounts_within;
@@ -16,6 +16,6 @@ walk-all-requires c =
       lines_rise = refl;
       lines_within = refl;
       space = c.requires.space;
-      accounts-held = c.requires.accounts-held;
-      rows-held = c.requires.rows-held;
+      accounts_held = c.requires.accounts_held;
+      rows_held = c.requires.rows_held;
     }

@@ -9,8 +9,8 @@ use Rattle.settling.specs.Terms.{terms_within}
 use Rattle.settling.proofs.Passing.{each_both}
 use Rattle.settling.proofs.day.settle_all.Goals as goal
 
-pub walk-all-requires : goal.walk-all-requires
-walk-all-requires g c =
+pub walk_all-requires : goal.walk_all-requires
+walk_all-requires g c =
     let accounts = held c.args.accounts.now in
     let terms : Account → Bool = λ _. terms_within c.args.terms.now in
     let few : Account → Bool = λ a. leb (standing (of_account a.number) c.args.lines.now) 8000000 in
@@ -24,6 +24,6 @@ walk-all-requires g c =
       lines_rise = c.requires.lines_rise;
       lines_within = c.requires.lines_within;
       space = c.requires.space;
-      accounts-held = c.requires.accounts-held;
-      rows-held = c.requires.rows-held;
+      accounts_held = c.requires.accounts_held;
+      rows_held = c.requires.rows_held;
     }

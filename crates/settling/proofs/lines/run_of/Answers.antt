@@ -6,8 +6,8 @@ use Rattle.ledger.specs.State.{standing, of_account, picked}
 use Rattle.settling.proofs.Runs.{opened, none_past}
 use Rattle.settling.proofs.lines.run_of.Goals as goal
 
-pub overflow-add-therms : goal.overflow-add-therms
-overflow-add-therms c =
+pub overflow_add-therms : goal.overflow_add-therms
+overflow_add-therms c =
     let ls = c.args.lines.now in
     let l = get_or ls c.loop-next.next blank_line in
     let whole = opened c.args.number ls c.loop-next.next c.loop-next-test.true in

@@ -17,11 +17,11 @@ no_price = record { day = 0; index = 0; market = 0 }
 able : (total days : ℕ) → 1 ≤ days → days ≤ 31 → total ≤ days * 1000000 → can_average total days ≡ true
 able total days low last high = grind (arith, nat_tests)
 
-pub overflow-add-total : goal.overflow-add-total
-overflow-add-total c =
+pub overflow_add-total : goal.overflow_add-total
+overflow_add-total c =
     let xs = c.args.prices.now in
     let more = index_more xs c.loop-price.price-index no_price c.loop-price-test.true in
-    let high = index_total_of_month c.args.days xs c.requires.rises c.requires.of-month in
+    let high = index_total_of_month c.args.days xs c.requires.rises c.requires.of_month in
     record { fits = omega (arith, c.loop-price.invariant, c.requires.last) }
 
 pub loop-price-preserved : goal.loop-price-preserved
@@ -31,7 +31,7 @@ pub unwrap-average-requires : goal.unwrap-average-requires
 unwrap-average-requires c =
     let xs = c.args.prices.now in
     let none : index_total (drop c.loop-price.price-index xs) ≡ 0 = at_drop_all index_total xs c.loop-price.price-index c.loop-price-test.false in
-    let high = index_total_of_month c.args.days xs c.requires.rises c.requires.of-month in
+    let high = index_total_of_month c.args.days xs c.requires.rises c.requires.of_month in
     let all : c.loop-price.total ≡ index_total xs = omega (arith, c.loop-price.invariant) in
     there {Y = ℕ} (λ (price : Price). price.hundredths) c.average.result (can_average c.loop-price.total c.args.days) (average c.loop-price.total c.args.days) c.average.ensures
     (able c.loop-price.total c.args.days c.requires.first c.requires.last (omega arith))
@@ -41,7 +41,7 @@ returns c =
     let xs = c.args.prices.now in
     let none : index_total (drop c.loop-price.price-index xs) ≡ 0 = at_drop_all index_total xs c.loop-price.price-index c.loop-price-test.false in
     let all : c.loop-price.total ≡ index_total xs = omega (arith, c.loop-price.invariant) in
-    let high = index_total_of_month c.args.days xs c.requires.rises c.requires.of-month in
+    let high = index_total_of_month c.args.days xs c.requires.rises c.requires.of_month in
     let e =
     value {Y = ℕ} (λ (price : Price). price.hundredths) c.average.result (can_average c.loop-price.total c.args.days) (average c.loop-price.total c.args.days) c.average.ensures
     (able c.loop-price.total c.args.days c.requires.first c.requires.last (omega arith)) c.unwrap-average.result c.unwrap-average.ensures

@@ -12,16 +12,16 @@ opened : (accounts : List Account) (i : ℕ) (r : Bool) → i < length accounts 
 opened accounts i r h e =
     at_drop_more unread accounts i no_account h ∙ ap (λ b. cond b (Some (get_or accounts i no_account)) (unread (drop (i + 1) accounts))) e
 
-pub returns-then-is-none : goal.returns-then-is-none
-returns-then-is-none c =
+pub returns-then-is_none : goal.returns-then-is_none
+returns-then-is_none c =
     let accounts = c.args.accounts.now in
-    let e : has_reading (get_or accounts c.loop-account.account-index no_account) ≡ false = c.is-none.ensures ∙ ap not c.if-is-none.true in
+    let e : has_reading (get_or accounts c.loop-account.account-index no_account) ≡ false = c.is_none.ensures ∙ ap not c.if-is_none.true in
     sym (opened accounts c.loop-account.account-index true c.loop-account-test.true (ap not e)) ∙ c.loop-account.invariant
 
 pub loop-account-preserved : goal.loop-account-preserved
 loop-account-preserved c =
     let accounts = c.args.accounts.now in
-    let e : has_reading (get_or accounts c.loop-account.account-index no_account) ≡ true = c.is-none.ensures ∙ ap not c.if-is-none.false in
+    let e : has_reading (get_or accounts c.loop-account.account-index no_account) ≡ true = c.is_none.ensures ∙ ap not c.if-is_none.false in
     sym (opened accounts c.loop-account.account-index false c.loop-account-test.true (ap not e)) ∙ c.loop-account.invariant
 
 pub returns : goal.returns

@@ -13,8 +13,8 @@ pub loop-i-init : goal.loop-i-init
 loop-i-init g c =
     let start = held c.args.accounts.now in (
       begun _ _ start (held c.args.rows.now),
-      c.requires.accounts-held,
-      c.requires.rows-held,
+      c.requires.accounts_held,
+      c.requires.rows_held,
       refl,
       refl,
       omega arith,
@@ -22,10 +22,10 @@ loop-i-init g c =
     )
 
 pub get-account-requires : goal.get-account-requires
-get-account-requires g c = let d = c.loop-i.invariant.0 in record { within = c.loop-i.invariant.1; held-there = omega (arith, d.long, c.len-count.ensures, c.loop-i-test.true) }
+get-account-requires g c = let d = c.loop-i.invariant.0 in record { within = c.loop-i.invariant.1; held_there = omega (arith, d.long, c.len-count.ensures, c.loop-i-test.true) }
 
-pub run-of-run-requires : goal.run-of-run-requires
-run-of-run-requires g c =
+pub run_of-run-requires : goal.run_of-run-requires
+run_of-run-requires g c =
     let ls = c.args.lines.now in
     let start = held c.args.accounts.now in
     let x = c.get-account.result in
@@ -33,7 +33,7 @@ run-of-run-requires g c =
     let h : c.loop-i.i < length start = omega (arith, c.len-count.ensures, c.loop-i-test.true) in
     let whole = ahead_here ls c.loop-i.next start c.loop-i.i x h stood c.loop-i.invariant.6 in
     let most = leb-true _ _ (each_at (λ a. leb (standing (of_account a.number) ls) 8000000) start c.loop-i.i x h stood c.requires.deliverable) in
-    record { from-within = c.loop-i.invariant.5; lines_rise = c.requires.lines_rise; lines_within = c.requires.lines_within; deliverable = omega arith }
+    record { from_within = c.loop-i.invariant.5; lines_rise = c.requires.lines_rise; lines_within = c.requires.lines_within; deliverable = omega arith }
 
 pub one-row-requires : goal.one-row-requires
 one-row-requires g c =
@@ -44,10 +44,10 @@ one-row-requires g c =
     let h : c.loop-i.i < length start = omega (arith, c.len-count.ensures, c.loop-i-test.true) in
     let whole = ahead_here ls c.loop-i.next start c.loop-i.i x h stood c.loop-i.invariant.6 in
     let test : ℕ → Account → Bool = g.W.Walk.ready c.args.walk.now in
-    ap (λ t. test t x) (c.run-of-run.ensures.therms ∙ whole) ∙ each_at (λ a. test (standing (of_account a.number) ls) a) start c.loop-i.i x h stood c.requires.ready
+    ap (λ t. test t x) (c.run_of-run.ensures.therms ∙ whole) ∙ each_at (λ a. test (standing (of_account a.number) ls) a) start c.loop-i.i x h stood c.requires.ready
 
 pub replace-requires : goal.replace-requires
-replace-requires g c = let d = c.loop-i.invariant.0 in record { within = c.loop-i.invariant.1; held-there = omega (arith, d.long, c.len-count.ensures, c.loop-i-test.true) }
+replace-requires g c = let d = c.loop-i.invariant.0 in record { within = c.loop-i.invariant.1; held_there = omega (arith, d.long, c.len-count.ensures, c.loop-i-test.true) }
 
 pub append-requires : goal.append-requires
 append-requires g c =
@@ -62,7 +62,7 @@ loop-i-preserved g c =
     let x = c.get-account.result in
     let stood : x ≡ get_or start c.loop-i.i x = c.get-account.ensures ∙ here d x in
     let h : c.loop-i.i < length start = omega (arith, c.len-count.ensures, c.loop-i-test.true) in
-    let whole = c.run-of-run.ensures.therms ∙ ahead_here ls c.loop-i.next start c.loop-i.i x h stood c.loop-i.invariant.6 in
+    let whole = c.run_of-run.ensures.therms ∙ ahead_here ls c.loop-i.next start c.loop-i.i x h stood c.loop-i.invariant.6 in
     let f : ℕ → Account → Account = g.W.Walk.renewed c.args.walk.now in
     let r : ℕ → Account → Row = g.W.Walk.written c.args.walk.now in
     let by : Account → ℕ = λ a. standing (of_account a.number) ls in (
@@ -74,8 +74,8 @@ loop-i-preserved g c =
       c.append.ensures.within,
       c.replace.ensures.sized ∙ c.loop-i.invariant.3,
       c.append.ensures.sized ∙ c.loop-i.invariant.4,
-      c.run-of-run.ensures.within,
-      ahead_more ls c.loop-i.next c.run-of-run.result.next start c.loop-i.i x h stood c.requires.accounts_rise c.run-of-run.ensures.later c.loop-i.invariant.6,
+      c.run_of-run.ensures.within,
+      ahead_more ls c.loop-i.next c.run_of-run.result.next start c.loop-i.i x h stood c.requires.accounts_rise c.run_of-run.ensures.later c.loop-i.invariant.6,
     )
 
 pub returns : goal.returns
@@ -85,8 +85,8 @@ returns g c =
     record {
       accounts = all_made d end;
       rows = all_wrote d end;
-      accounts-sized = c.loop-i.invariant.3;
-      rows-sized = c.loop-i.invariant.4;
+      accounts_sized = c.loop-i.invariant.3;
+      rows_sized = c.loop-i.invariant.4;
       accounts_within = c.loop-i.invariant.1;
-      rows-within = c.loop-i.invariant.2;
+      rows_within = c.loop-i.invariant.2;
     }

@@ -22,9 +22,9 @@ loop-line-preserved c =
           let t = w.if-line-pipeline.true in
           let one : picked (on_pipeline p) (get_or xs i blank_line) ≡ (get_or xs i blank_line).therms = grind (arith, nat_tests) in
           let two : picked (on_pipeline p) (as_it_stands ls (get_or xs i blank_line)) ≡ (as_it_stands ls (get_or xs i blank_line)).therms = grind (arith, nat_tests) in
-          let e = w.therms-standing.ensures in
+          let e = w.therms_standing.ensures in
           let small : Fits w32 (get_or xs i blank_line).therms = search rules in
-          let low : Fits w32 w.therms-standing.result = search rules in
+          let low : Fits w32 w.therms_standing.result = search rules in
           (omega (arith, w.new-is), omega (arith, w.was-is), omega (arith, w.new-is, small.fits), omega (arith, w.was-is, low.fits))
       | goal.else-line-pipeline w ↦
           let t = w.if-line-pipeline.false in

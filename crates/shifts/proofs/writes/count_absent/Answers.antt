@@ -21,13 +21,13 @@ loop-line-preserved c =
     let inv = c.loop-line.invariant in
     let more = absent_more xs i blank_line c.loop-line-test.true ls in
     let found = c.look.ensures ∙ ap (λ k. at line_key k ls) c.key.ensures in
-    let flag = ap not (sym (ap is_some found) ∙ c.is-none.ensures) ∙ twice c.is-none.result in
-    elim c.if-is-none.branch [
-      | goal.then-is-none w ↦
-          let one : cond {A = ℕ} (is_absent ls (get_or xs i blank_line)) 1 0 ≡ 1 = cond-true _ _ _ (flag ∙ w.if-is-none.true) in
+    let flag = ap not (sym (ap is_some found) ∙ c.is_none.ensures) ∙ twice c.is_none.result in
+    elim c.if-is_none.branch [
+      | goal.then-is_none w ↦
+          let one : cond {A = ℕ} (is_absent ls (get_or xs i blank_line)) 1 0 ≡ 1 = cond-true _ _ _ (flag ∙ w.if-is_none.true) in
           (omega (arith, w.absent-is), omega (arith, w.absent-is))
-      | goal.else-is-none w ↦
-          let one : cond {A = ℕ} (is_absent ls (get_or xs i blank_line)) 1 0 ≡ 0 = cond-false _ _ _ (flag ∙ w.if-is-none.false) in
+      | goal.else-is_none w ↦
+          let one : cond {A = ℕ} (is_absent ls (get_or xs i blank_line)) 1 0 ≡ 0 = cond-false _ _ _ (flag ∙ w.if-is_none.false) in
           (omega (arith, w.absent-is), omega (arith, w.absent-is))
     ]
 

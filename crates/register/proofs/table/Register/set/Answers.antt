@@ -1,5 +1,5 @@
 use Rattle.std.proofs.Common.{ℕ, ◌+◌, ◌<◌, ltb, length, take, drop, is_some, sym, refl, ap, ◌∙◌, subst, arith}
-use Rattle.std.specs.List.{AllByRecursion as All}
+use Rattle.std.specs.List.{AllByRecursion}
 use Rattle.std.proofs.lemmas.Bool.{or_left, or_right, or_from, leb-true, leb-false, lt-ltb, le-ltb}
 use Rattle.register.specs.Keys.{at, rising}
 use Rattle.register.specs.Views.{held, room}
@@ -47,8 +47,8 @@ returns-else-not-has_room g c =
     let item = c.args.item in
     let place = c.in-Err.place in
     let missing = c.in-Err.ensures in
-    let below : ℕ → Type 0 = λ k. All (λ x. key x < k) (take place xs) in
-    let above : ℕ → Type 0 = λ k. All (λ x. k < key x) (drop place xs) in
+    let below : ℕ → Type 0 = λ k. AllByRecursion (λ x. key x < k) (take place xs) in
+    let above : ℕ → Type 0 = λ k. AllByRecursion (λ x. k < key x) (drop place xs) in
     let put_is = put_missing key item xs place missing.0 (subst below c.key.ensures missing.1) (subst above c.key.ensures missing.2) in
     let free = leb-true (length xs + 1) (room c.args.self.now) (sym c.if-not-has_room.ensures) in
     let after = c.insert.ensures.after ∙ sym put_is in

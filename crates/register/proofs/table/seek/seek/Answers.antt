@@ -1,5 +1,5 @@
 use Rattle.std.proofs.Common.{◌≡◌, ◌+◌, ◌-◌, ◌/◌, ◌<◌, length, get_or, take, drop, sym, ap, ◌∙◌, subst, arith}
-use Rattle.std.specs.List.{AllByRecursion as All}
+use Rattle.std.specs.List.{AllByRecursion}
 use Rattle.std.proofs.lemmas.List.{length-take-le, get_or-take, drop_all, get_or_default}
 use Rattle.register.proofs.Rising.{lower, higher}
 use Rattle.register.proofs.table.seek.seek.Goals as goal
@@ -8,7 +8,7 @@ pub loop-low-init : goal.loop-low-init
 loop-low-init g c =
     let xs = take c.args.count c.args.items.now in
     let long : length xs ≡ c.args.count = length-take-le c.args.count c.args.items.now c.requires.within in
-    (omega arith, omega arith, tt, subst (All (λ x. c.args.key < g.T.Keyed.key x)) (sym (drop_all c.args.count xs (omega arith))) tt)
+    (omega arith, omega arith, tt, subst (AllByRecursion (λ x. c.args.key < g.T.Keyed.key x)) (sym (drop_all c.args.count xs (omega arith))) tt)
 
 pub returns-then-here-key : goal.returns-then-here-key
 returns-then-here-key g c =
@@ -56,4 +56,4 @@ returns g c =
     let xs = take c.args.count c.args.items.now in
     let long : length xs ≡ c.args.count = length-take-le c.args.count c.args.items.now c.requires.within in
     let end : c.loop-low.high ≡ c.loop-low.low = omega arith in
-    (omega arith, c.loop-low.invariant.2, subst (λ h. All (λ x. c.args.key < key x) (drop h xs)) end c.loop-low.invariant.3)
+    (omega arith, c.loop-low.invariant.2, subst (λ h. AllByRecursion (λ x. c.args.key < key x) (drop h xs)) end c.loop-low.invariant.3)

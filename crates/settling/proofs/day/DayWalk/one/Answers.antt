@@ -5,8 +5,8 @@ use Rattle.ledger.specs.Safety.{account_within}
 use Rattle.settling.specs.Terms.{terms_within}
 use Rattle.settling.proofs.day.DayWalk.one.Goals as goal
 
-pub settle-one-requires : goal.settle-one-requires
-settle-one-requires g c =
+pub settle_one-requires : goal.settle_one-requires
+settle_one-requires g c =
     let terms = terms_within c.args.self.now.terms.now in
     let few = leb c.args.therms 8000000 in
     let within = account_within c.args.account.now in
