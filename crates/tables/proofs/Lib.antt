@@ -1,3 +1,4 @@
+pub mod ByKind
 pub mod Known
 pub mod Readings
 pub mod Shifts

@@ -1,7 +1,7 @@
 -- What a day is settled by and a month is closed by is within limits.
-use Rattle.std.proofs.Common.{◌≡◌, ℕ, ◌+◌, ◌<◌, ◌≤◌, Bool, true, false, ◌&&◌, ◌||◌, ltb, leb, length, refl, le_refl, arith}
+use Rattle.std.proofs.Common.{◌≡◌, ℕ, ◌+◌, ◌<◌, ◌≤◌, Bool, true, false, ◌||◌, length, refl, le_refl, arith}
 use Rattle.std.proofs.lemmas.Bool.Decides.{nat_tests}
-use Rattle.std.proofs.lemmas.Bool.{and_from, false≢true, le-leb, leb-true, ltb-true}
+use Rattle.std.proofs.lemmas.Bool.{and_from, false≢true, le-leb, ltb-true}
 use Rattle.tariff.specs.Calendar.{in_calendar, days_in}
 use Rattle.calls.specs.Limits.{between}
 use Rattle.ledger.specs.declared.records.Stage.{Stage}

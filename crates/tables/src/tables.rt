@@ -9,7 +9,7 @@ pub(crate) mod lines;
 pub(crate) mod months;
 pub(crate) mod opening;
 pub(crate) mod prices;
-pub(crate) mod settling;
+pub(crate) mod settlement;
 
 /// What a book holds. Its methods ask for the tables' invariant; the book carries it, since a struct with a ghost field beside lent
 /// memory could not hand that memory on.

@@ -11,14 +11,14 @@ pub decide-requires : goal.decide-requires
 decide-requires g c = record { kept = book_kept c.args.self.now; ready = book_ready c.args.self.now }
 
 -- both rules keep their law, so the book's history goes on
-pub invariant-of-self : goal.invariant-of-self
-invariant-of-self g c =
+pub invariant_of-self : goal.invariant_of-self
+invariant_of-self g c =
     let s = state_of c.args.self.now.tables in
     let o = c.args.ordinary.now in
     let r = c.args.critical.now in
     let led = led_on (both (g.O.DayRule.answers o) (g.C.DayRule.answers r)) (g.met.O.DayRule.keeps o) (g.met.C.DayRule.keeps r) s c.args.call.now c.args.self.now.led in
     let kept = c.decide.ensures.kept in
-    (kept.accounts, (kept.lines, (kept.prices, (kept.rows, (subst Led (sym c.decide.ensures.after) led, tt)))))
+    record { accounts_within = kept.accounts; lines_within = kept.lines; prices_within = kept.prices; rows_within = kept.rows; led = subst Led (sym c.decide.ensures.after) led }
 
 pub returns : goal.returns
 returns g c =

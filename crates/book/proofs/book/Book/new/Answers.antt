@@ -4,11 +4,11 @@ use Rattle.ledger.proofs.Led.{upheld}
 use Rattle.tables.specs.States.{state_of}
 use Rattle.book.proofs.book.Book.new.Goals as goal
 
-pub invariant-of-result : goal.invariant-of-result
-invariant-of-result c =
+pub invariant_of-result : goal.invariant_of-result
+invariant_of-result c =
     let kept = c.new-tables.ensures.kept in
     let led = subst (Leads []) (sym c.new-tables.ensures.state) (fresh _ _ _ _) in
-    (kept.accounts, (kept.lines, (kept.prices, (kept.rows, (∣ ([], led) ∣₁, tt)))))
+    record { accounts_within = kept.accounts; lines_within = kept.lines; prices_within = kept.prices; rows_within = kept.rows; led = ∣ ([], led) ∣₁ }
 
 pub returns : goal.returns
 returns c =

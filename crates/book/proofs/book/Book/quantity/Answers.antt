@@ -8,12 +8,12 @@ use Rattle.ledger.proofs.Steps.{each_all}
 use Rattle.book.proofs.Standing.{book_kept, book_ready}
 use Rattle.book.proofs.book.Book.quantity.Goals as goal
 
-pub filling-delivery-requires : goal.filling-delivery-requires
-filling-delivery-requires c =
+pub filling_delivery-requires : goal.filling_delivery-requires
+filling_delivery-requires c =
     let accounts = held c.args.self.now.tables.accounts in
     let e : account_at c.args.request.now.account accounts ≡ Some c.in-Some.account = sym c.look.ensures ∙ c.in-Some.is in
     record {
-      request = sym c.is-within-limits.ensures ∙ c.if-not-is-within-limits.false;
+      request = sym c.is_within_limits.ensures ∙ c.if-not-is_within_limits.false;
       loss = leb-true _ _ (book_ready c.args.self.now).loss_within;
       account = all_at number (λ a. account_within a ≡ true) c.args.request.now.account accounts c.in-Some.account (each_all account_within accounts (book_ready c.args.self.now).accounts_within) e;
     }

@@ -5,8 +5,8 @@ use Rattle.ledger.specs.Ready.{cents_bounded}
 use Rattle.book.proofs.Standing.{book_ready}
 use Rattle.book.proofs.book.Book.statement.Goals as goal
 
-pub statement-of-requires : goal.statement-of-requires
-statement-of-requires c =
+pub statement_of-requires : goal.statement_of-requires
+statement_of-requires c =
     let ready = book_ready c.args.self.now in
     let same = c.all.ensures in
     let few = leb-true _ _ ready.rows_few in

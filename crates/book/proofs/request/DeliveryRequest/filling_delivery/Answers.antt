@@ -7,4 +7,4 @@ returns c =
     let loss = c.args.loss in
     let q = c.args.self.now in
     serves loss q c.args.account.now c.requires.loss c.requires.request c.min.result
-    (c.min.ensures ∙ ap (λ t. min ((q.used + t) * 10000 / (10000 - loss)) 8000000) c.min-can-take.ensures)
+    (c.min.ensures ∙ ap (λ t. min ((q.used + t) * 10000 / (10000 - loss)) 8000000) c.min-can_take.ensures)

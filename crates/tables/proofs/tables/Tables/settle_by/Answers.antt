@@ -1,7 +1,6 @@
-use Rattle.std.proofs.Common.{◌≡◌, leb, List, ◌++◌, map, ap, ◌∙◌, ap₂, rules}
+use Rattle.std.proofs.Common.{leb, List, ◌++◌, map, ap, ◌∙◌, ap₂, rules}
 use Rattle.tariff.specs.Each.{each}
 use Rattle.register.specs.Keys.{rising}
-use Rattle.register.specs.Views.{held}
 use Rattle.calls.specs.declared.fields.Line.{Line}
 use Rattle.calls.specs.Limits.{line_within}
 use Rattle.ledger.specs.declared.records.Account.{Account}
@@ -14,8 +13,8 @@ use Rattle.tables.specs.States.{state_of}
 use Rattle.tables.proofs.Terms.{day_terms_within}
 use Rattle.tables.proofs.tables.Tables.settle_by.Goals as goal
 
-pub settle-all-requires : goal.settle-all-requires
-settle-all-requires g c =
+pub settle_all-requires : goal.settle_all-requires
+settle_all-requires g c =
     let s = state_of c.args.self.now in
     let ready = c.requires.ready in
     let same = c.all-lines.ensures in
@@ -28,8 +27,8 @@ settle-all-requires g c =
       lines_rise = ap (rising line_key) same ∙ ready.lines_rise;
       lines_within = ap (each line_within) same ∙ ready.lines_within;
       space = c.requires.space;
-      accounts-held = c.requires.kept.accounts;
-      rows-held = c.requires.kept.rows;
+      accounts_held = c.requires.kept.accounts;
+      rows_held = c.requires.kept.rows;
     }
 
 pub returns : goal.returns
@@ -38,6 +37,6 @@ returns g c =
     let rule = g.R.DayRule.answers c.args.rule.now in
     let renewed : DayTerms → List Line → List Account = λ t ls. map (λ a. account_after_day rule t (standing (of_account a.number) ls) a) s.accounts in
     let written : DayTerms → List Line → List Row = λ t ls. s.rows ++ map (λ a. day_row rule t (standing (of_account a.number) ls) a) s.accounts in
-    let accounts = c.settle-all.ensures.accounts ∙ ap₂ renewed c.requires.terms c.all-lines.ensures in
-    let rows = c.settle-all.ensures.rows ∙ ap₂ written c.requires.terms c.all-lines.ensures in
+    let accounts = c.settle_all.ensures.accounts ∙ ap₂ renewed c.requires.terms c.all-lines.ensures in
+    let rows = c.settle_all.ensures.rows ∙ ap₂ written c.requires.terms c.all-lines.ensures in
     record { kept = search rules; after = search rules }

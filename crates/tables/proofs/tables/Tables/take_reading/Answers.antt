@@ -1,4 +1,4 @@
-use Rattle.std.proofs.Common.{◌≡◌, Some, sym, ap, ◌∙◌, rules}
+use Rattle.std.proofs.Common.{◌≡◌, Some, sym, ◌∙◌}
 use Rattle.register.specs.Views.{held}
 use Rattle.ledger.specs.State.{account_at}
 use Rattle.tables.proofs.Known.{found_known}
