@@ -1,5 +1,5 @@
-use Rattle.std.proofs.Common.{◌≡◌, ◌∷◌, sym, subst, subst₂}
-use Rattle.ledger.specs.Runs.{History, Leads, met, after}
+use Rattle.std.proofs.Common.{◌∷◌, sym, subst, subst₂}
+use Rattle.ledger.specs.Runs.{History, Leads, met}
 use Rattle.ledger.specs.Ready.{Led}
 use Rattle.ledger.proofs.Led.{leads_on, led_on, upheld}
 use Rattle.ledger.proofs.Refusing.{by_the_table}

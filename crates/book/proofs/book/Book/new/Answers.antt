@@ -1,4 +1,4 @@
-use Rattle.std.proofs.Common.{◌≡◌, [], sym, subst}
+use Rattle.std.proofs.Common.{[], sym, subst}
 use Rattle.ledger.specs.Runs.{Leads, fresh}
 use Rattle.ledger.proofs.Led.{upheld}
 use Rattle.tables.specs.States.{state_of}

@@ -1,4 +1,4 @@
-use Rattle.std.proofs.Common.{◌≡◌, ◌+◌, ◌-◌, ◌*◌, ◌/◌, min, ap, ◌∙◌}
+use Rattle.std.proofs.Common.{◌+◌, ◌-◌, ◌*◌, ◌/◌, min, ap, ◌∙◌}
 use Rattle.book.proofs.Filling.{serves}
 use Rattle.book.proofs.request.DeliveryRequest.filling_delivery.Goals as goal
 
