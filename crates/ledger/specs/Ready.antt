@@ -1,5 +1,5 @@
 -- What every call may lean on, each part as a test, wherever calls alone have led.
-use Rattle.std.specs.Prelude.{◌≡◌, ℕ, Bool, true, not, ◌&&◌, ◌||◌, leb, length, pos, neg_ℤ, is_some, ◌==◌, int_le, nat_le, nat_lt}
+use Rattle.std.specs.Prelude.{◌≡◌, ℕ, Bool, true, not, ◌&&◌, ◌||◌, length, pos, neg_ℤ, is_some, ◌==◌, int_le, nat_le, nat_lt}
 use Rattle.tariff.specs.Calendar.{in_calendar}
 use Rattle.tariff.specs.Each.{each}
 use Rattle.tariff.specs.Loss.{most_loss}
@@ -41,11 +41,11 @@ pub record Ready (s : State) : Type 0 where
   pub lines_within : each line_within s.lines ≡ true
   pub accounts_deliverable : each (deliverable s) s.accounts ≡ true
   pub prices_within : each (price_of_month (days_of s)) s.prices ≡ true
-  pub rows_few : leb (length s.rows) (most_rows s) ≡ true
+  pub rows_few : nat_le (length s.rows) (most_rows s) ≡ true
   pub rows_bounded : each cents_bounded s.rows ≡ true
   pub month_known : (is_unopened s.stage || in_calendar s.year s.month) ≡ true
   pub day_known : (no_day s.stage || nat_lt s.settled (days_of s)) ≡ true
-  pub settled_few : leb s.settled (days_of s) ≡ true
-  pub loss_within : leb s.loss most_loss ≡ true
+  pub settled_few : nat_le s.settled (days_of s) ≡ true
+  pub loss_within : nat_le s.loss most_loss ≡ true
   pub gas_cost_there : (s.settled == 0 || is_some s.gas_cost) ≡ true
-  pub gas_cost_within : leb (amount s.gas_cost) most_price ≡ true
+  pub gas_cost_within : nat_le (amount s.gas_cost) most_price ≡ true

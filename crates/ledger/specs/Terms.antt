@@ -59,8 +59,8 @@ row_on date a question day = record {
   cents = day.cents;
 }
 
-abbrev pub day_row : Rule → DayTerms → ℕ → Account → Row
-day_row rule t lines a = row_on t.date a (figures_on t lines a) (settled_on rule t (figures_on t lines a))
+abbrev pub row_after_day : Rule → DayTerms → ℕ → Account → Row
+row_after_day rule t lines a = row_on t.date a (figures_on t lines a) (settled_on rule t (figures_on t lines a))
 
 -- what an account's lines that stand come to
 abbrev pub lines_of : State → Account → ℕ
@@ -82,8 +82,8 @@ account_after_close t a =
     record { number = a.number; supplier = a.supplier; capacity = a.capacity; storage = (closed_on t a).storage_after; reading = a.reading }
 
 -- a close's row has the month's last day, and 0 in the columns that it lacks
-abbrev pub close_row : CloseTerms → Account → Row
-close_row t a =
+abbrev pub row_after_close : CloseTerms → Account → Row
+row_after_close t a =
     let close = closed_on t a in
     record {
       kind = Rows.Close;
@@ -114,7 +114,7 @@ day_settled_by rule s = record {
   accounts = map (λ a. account_after_day rule (day_terms s) (lines_of s a) a) s.accounts;
   lines = [];
   prices = s.prices;
-  rows = s.rows ++ map (λ a. day_row rule (day_terms s) (lines_of s a) a) s.accounts;
+  rows = s.rows ++ map (λ a. row_after_day rule (day_terms s) (lines_of s a) a) s.accounts;
   account_room = s.account_room;
   line_room = s.line_room;
   price_room = s.price_room;

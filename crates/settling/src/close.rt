@@ -4,7 +4,7 @@ ghost use Rattle.tariff.specs.Each.{each};
 ghost use Rattle.register.specs.Keys.{rising};
 ghost use Rattle.register.specs.Views.{held, room, Within};
 ghost use Rattle.ledger.specs.State.{number};
-ghost use Rattle.ledger.specs.Terms.{closed_on, account_after_close, close_row};
+ghost use Rattle.ledger.specs.Terms.{closed_on, account_after_close, row_after_close};
 ghost use Rattle.ledger.specs.Safety.{account_within};
 ghost use Rattle.settling.specs.Terms.{close_terms_within};
 
@@ -42,7 +42,7 @@ impl<'t> Walk for MonthEnd<'t> {
 
     ghost renewed = { λ m _ a. account_after_close m.terms.now a };
 
-    ghost written = { λ m _ a. close_row m.terms.now a };
+    ghost written = { λ m _ a. row_after_close m.terms.now a };
 
     fn one(&self, _therms: u32, account: &mut Account) -> Row {
         let close = close_of(self.terms, account);
@@ -61,7 +61,7 @@ pub fn close_all(terms: &CloseTerms, accounts: &mut Register<Account>, rows: &mu
     requires accounts_held { Within accounts.old }
     requires rows_held { Within rows.old }
     ensures accounts { held accounts.new ≡ map (account_after_close terms.now) (held accounts.old) }
-    ensures rows { held rows.new ≡ held rows.old ++ map (close_row terms.now) (held accounts.old) }
+    ensures rows { held rows.new ≡ held rows.old ++ map (row_after_close terms.now) (held accounts.old) }
     ensures accounts_sized { room accounts.new ≡ room accounts.old }
     ensures rows_sized { room rows.new ≡ room rows.old }
     ensures accounts_within { Within accounts.new }

@@ -1,12 +1,12 @@
 //! A gas day of all accounts, under any day rule. It takes prices, loss and date as they are handed in, and never looks them up.
-ghost use Rattle.std.specs.Prelude.{◌≡◌, ◌+◌, ◌≤◌, true, ◌&&◌, leb, ◌++◌, map, length, nat_le};
+ghost use Rattle.std.specs.Prelude.{◌≡◌, ◌+◌, ◌≤◌, true, ◌&&◌, ◌++◌, map, length, nat_le};
 ghost use Rattle.tariff.specs.Each.{each};
 ghost use Rattle.register.specs.Keys.{rising};
 ghost use Rattle.register.specs.Views.{held, room, Within};
 ghost use Rattle.calls.specs.Limits.{line_within};
 ghost use Rattle.ledger.specs.State.{number, line_key, standing, of_account};
 ghost use Rattle.ledger.specs.Table.{has_reading};
-ghost use Rattle.ledger.specs.Terms.{figures_on, account_after_day, day_row};
+ghost use Rattle.ledger.specs.Terms.{figures_on, account_after_day, row_after_day};
 ghost use Rattle.ledger.specs.Safety.{account_within};
 ghost use Rattle.settling.specs.Terms.{terms_within};
 
@@ -56,7 +56,7 @@ fn settle_one<R: DayRule>(rule: &R, terms: &DayTerms, therms: u32, account: &mut
     requires read { has_reading account.old ≡ true }
     requires deliverable { therms ≤ 8000000 }
     ensures account { account.new ≡ account_after_day (R.DayRule.answers rule.now) terms.now therms account.old }
-    ensures row { result ≡ day_row (R.DayRule.answers rule.now) terms.now therms account.old }
+    ensures row { result ≡ row_after_day (R.DayRule.answers rule.now) terms.now therms account.old }
 {
     let question = question_of(terms, therms, account);
     let prices = prices_of(terms);
@@ -79,7 +79,7 @@ impl<'r, 't, R: DayRule> Walk for Day<'r, 't, R> {
 
     ghost renewed = { λ d therms a. account_after_day (R.DayRule.answers d.rule.now) d.terms.now therms a };
 
-    ghost written = { λ d therms a. day_row (R.DayRule.answers d.rule.now) d.terms.now therms a };
+    ghost written = { λ d therms a. row_after_day (R.DayRule.answers d.rule.now) d.terms.now therms a };
 
     fn one(&self, therms: u32, account: &mut Account) -> Row {
         settle_one(self.rule, self.terms, therms, account)
@@ -97,7 +97,7 @@ pub fn settle_all<R: DayRule>(
     requires terms { terms_within terms.now ≡ true }
     requires accounts_within { each account_within (held accounts.old) ≡ true }
     requires read { each has_reading (held accounts.old) ≡ true }
-    requires deliverable { each (λ a. leb (standing (of_account a.number) lines.now) 8000000) (held accounts.old) ≡ true }
+    requires deliverable { each (λ a. nat_le (standing (of_account a.number) lines.now) 8000000) (held accounts.old) ≡ true }
     requires accounts_rise { rising number (held accounts.old) ≡ true }
     requires lines_rise { rising line_key lines.now ≡ true }
     requires lines_within { each line_within lines.now ≡ true }
@@ -105,7 +105,7 @@ pub fn settle_all<R: DayRule>(
     requires accounts_held { Within accounts.old }
     requires rows_held { Within rows.old }
     ensures accounts { held accounts.new ≡ map (λ a. account_after_day (R.DayRule.answers rule.now) terms.now (standing (of_account a.number) lines.now) a) (held accounts.old) }
-    ensures rows { held rows.new ≡ held rows.old ++ map (λ a. day_row (R.DayRule.answers rule.now) terms.now (standing (of_account a.number) lines.now) a) (held accounts.old) }
+    ensures rows { held rows.new ≡ held rows.old ++ map (λ a. row_after_day (R.DayRule.answers rule.now) terms.now (standing (of_account a.number) lines.now) a) (held accounts.old) }
     ensures accounts_sized { room accounts.new ≡ room accounts.old }
     ensures rows_sized { room rows.new ≡ room rows.old }
     ensures accounts_within { Within accounts.new }

@@ -1,7 +1,7 @@
 //! Rows written out: the account's own columns, and what came of its day or close. Nothing is worked out here.
 ghost use Rattle.std.specs.Prelude.{◌≡◌};
 ghost use Rattle.ledger.specs.Rows.{row_tiers};
-ghost use Rattle.ledger.specs.Terms.{row_on, closed_on, close_row};
+ghost use Rattle.ledger.specs.Terms.{row_on, closed_on, row_after_close};
 
 use ledger::records::{Account, CloseTerms, Row, RowKind, RowTiers};
 use tariff::calendar::Date;
@@ -50,7 +50,7 @@ pub(crate) fn settled_row(
 /// The row of a close; a close has no day's columns.
 pub(crate) fn closed_row(terms: &CloseTerms, account: &Account, close: &MonthClose) -> Row
     requires { close.now ≡ closed_on terms.now account.now }
-    ensures { result ≡ close_row terms.now account.now }
+    ensures { result ≡ row_after_close terms.now account.now }
 {
     Row {
         kind: RowKind::Close,

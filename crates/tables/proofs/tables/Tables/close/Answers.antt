@@ -1,6 +1,6 @@
 use Rattle.std.proofs.Common.{◌++◌, map, ap, ◌∙◌, rules}
 use Rattle.ledger.specs.Table.{is_unopened}
-use Rattle.ledger.specs.Terms.{account_after_close, close_row}
+use Rattle.ledger.specs.Terms.{account_after_close, row_after_close}
 use Rattle.settling.specs.Terms.{close_terms_within}
 use Rattle.tables.specs.States.{state_of}
 use Rattle.tables.proofs.Terms.{month_terms_within}
@@ -22,5 +22,5 @@ pub returns : goal.returns
 returns c =
     let s = state_of c.args.self.now in
     let accounts = c.close_all.ensures.accounts ∙ ap (λ t. map (account_after_close t) s.accounts) c.close_terms-terms.ensures in
-    let rows = c.close_all.ensures.rows ∙ ap (λ t. s.rows ++ map (close_row t) s.accounts) c.close_terms-terms.ensures in
+    let rows = c.close_all.ensures.rows ∙ ap (λ t. s.rows ++ map (row_after_close t) s.accounts) c.close_terms-terms.ensures in
     record { kept = search rules; after = search rules; answer = search rules; unchanged = tt }

@@ -7,7 +7,7 @@ use Rattle.ledger.specs.declared.records.Account.{Account}
 use Rattle.ledger.specs.declared.records.DayTerms.{DayTerms}
 use Rattle.ledger.specs.declared.records.Row.{Row}
 use Rattle.ledger.specs.State.{line_key, standing, of_account}
-use Rattle.ledger.specs.Terms.{account_after_day, day_row}
+use Rattle.ledger.specs.Terms.{account_after_day, row_after_day}
 use Rattle.settling.specs.Terms.{terms_within}
 use Rattle.tables.specs.States.{state_of}
 use Rattle.tables.proofs.Terms.{day_terms_within}
@@ -36,7 +36,7 @@ returns g c =
     let s = state_of c.args.self.now in
     let rule = g.R.DayRule.answers c.args.rule.now in
     let renewed : DayTerms → List Line → List Account = λ t ls. map (λ a. account_after_day rule t (standing (of_account a.number) ls) a) s.accounts in
-    let written : DayTerms → List Line → List Row = λ t ls. s.rows ++ map (λ a. day_row rule t (standing (of_account a.number) ls) a) s.accounts in
+    let written : DayTerms → List Line → List Row = λ t ls. s.rows ++ map (λ a. row_after_day rule t (standing (of_account a.number) ls) a) s.accounts in
     let accounts = c.settle_all.ensures.accounts ∙ ap₂ renewed c.requires.terms c.all-lines.ensures in
     let rows = c.settle_all.ensures.rows ∙ ap₂ written c.requires.terms c.all-lines.ensures in
     record { kept = search rules; after = search rules }
