@@ -1,9 +1,11 @@
 -- What `at` and `put` come to where a key stands, and where it is missing.
-use Rattle.std.proofs.Common.{◌≡◌, ℕ, zero, suc, ◌<◌, ◌≤◌, true, eqb, ltb, List, [], ◌∷◌, length, get_or, take, drop, set, Some, None, sym, refl, ap, ◌∙◌, arith}
+use Rattle.std.proofs.Common.{◌≡◌, ℕ, zero, suc, ◌<◌, ◌≤◌, true, eqb, ltb, List, [], ◌∷◌, length, get_or, take, drop, set, is_some, Some, None, Ok, Err, Result, ◌||◌, sym, refl, ap, subst, ◌∙◌, arith}
 use Rattle.std.specs.List.{insert, AllByRecursion}
 use Rattle.std.proofs.ByRecursion.{All-weaker}
 use Rattle.std.proofs.lemmas.Bool.{and_from, and_parts, eq-eqb, ne_eqb, lt-ltb, le-ltb, eqb-true, eqb-false, ltb-true, ltb-false, cond-true, cond-false, cond_both}
-use Rattle.register.specs.Keys.{at, put, all_above, rising}
+use Rattle.std.specs.Result.{result_ok}
+use Rattle.register.specs.Keys.{at, put, fits, all_above, rising}
+use Rattle.register.specs.Places.{Sought}
 use Rattle.register.proofs.Rising.{above_all, all_above_from}
 
 module _ {X : Type 0} (key : X → ℕ) where
@@ -70,3 +72,29 @@ module _ {X : Type 0} (key : X → ℕ) where
       (λ e. cond_both (ltb (key x) (key y)) _ _ (λ l. rising key l ≡ true)
       (λ l. let less = ltb-true (key x) (key y) l in and_from _ _ (and_from _ _ (lt-ltb (key x) (key y) less) (weaker (key x) (key y) ys (omega arith) p.0)) r)
       (λ l. let apart = eqb-false (key x) (key y) e in let more = ltb-false (key x) (key y) l in and_from _ _ (above_put (key y) x ys (omega arith) p.0) (rising_put x ys p.1)))
+
+  -- so does one in the place of another with its key
+  pub rising_set : (x : X) (xs : List X) (m : ℕ) → rising key xs ≡ true → m < length xs → key (get_or xs m x) ≡ key x → rising key (set xs m x) ≡ true
+  rising_set x xs m r lt e = ap (rising key) (sym (put_found x xs m r lt e)) ∙ rising_put x xs r
+
+  -- where the key is sought in vain, the record fits if there is room, and goes before the place
+  pub fits_missing : (k room i : ℕ) (x : X) (xs : List X) → k ≡ key x → Sought key k xs (Err i) → fits key room xs x ≡ ltb (length xs) room
+  fits_missing k room i x xs e s = ap (λ o. is_some o || ltb (length xs) room) (ap (λ n. at key n xs) (sym e) ∙ at_missing k xs i s.1 s.2)
+
+  pub put_sought : (k i : ℕ) (x : X) (xs : List X) → k ≡ key x → Sought key k xs (Err i) → put key x xs ≡ insert xs i x
+  put_sought k i x xs e s = let t = subst (λ n. Sought key n xs (Err i)) e s in put_missing x xs i t.0 t.1 t.2
+
+  pub fits_found : (room : ℕ) (x : X) (xs : List X) (m : ℕ) → rising key xs ≡ true → m < length xs → key (get_or xs m x) ≡ key x → fits key room xs x ≡ true
+  fits_found room x xs m r lt e = ap (λ o. is_some o || ltb (length xs) room) (ap (λ n. at key n xs) (sym e) ∙ at_found xs m x r lt)
+
+  -- what a search finds is the record with that key, if there is one
+  pub looked : (k : ℕ) (xs : List X) (r : Result ℕ ℕ) (i : ℕ) (x : X) → rising key xs ≡ true → Sought key k xs r → result_ok r ≡ Some i → x ≡ get_or xs i x → Some x ≡ at key k xs
+  looked k xs (Ok j) i x up s e is =
+      let same : j ≡ i = cc in
+      let there : x ≡ get_or xs j x = is ∙ ap (λ n. get_or xs n x) (sym same) in
+      ap (λ y. Some y) there ∙ sym (at_found xs j x up s.0) ∙ ap (λ n. at key n xs) (s.1 x)
+  looked k xs (Err j) i x up s e is = absurd (cc)
+
+  pub looked_in_vain : (k : ℕ) (xs : List X) (r : Result ℕ ℕ) → Sought key k xs r → result_ok r ≡ None → at key k xs ≡ None
+  looked_in_vain k xs (Ok j) s e = absurd (cc)
+  looked_in_vain k xs (Err j) s e = at_missing k xs j s.1 s.2

@@ -1,3 +1,4 @@
 pub mod Rising
 pub mod AtKeys
 pub mod Rooms
+pub mod Seeking

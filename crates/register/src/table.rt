@@ -1,12 +1,22 @@
-//! Records in lent memory.
-pub(crate) mod methods;
-pub(crate) mod seek;
-pub(crate) mod shift;
+//! Records by rising key, in lent memory.
+ghost use Rattle.std.specs.Prelude.{◌≡◌, true};
+ghost use Rattle.register.specs.Keys.{rising};
+ghost use Rattle.register.specs.Views.{held};
 
-/// Records in lent memory, of which the first `count` are held. Whoever holds a register states its invariant: a struct with a ghost
-/// field could not hand its slice on.
+use crate::keyed::Keyed;
+use crate::shelf::Shelf;
+
+pub(crate) mod methods;
+
+/// Records in lent memory, by rising key: no key comes twice.
 #[derive(Drop)]
-pub struct Register<'a, T> {
-    items: &'a mut [T],
-    count: usize,
+pub struct Register<'a, T: Keyed> {
+    shelf: Shelf<'a, T>,
+    ghost rises: { rising T.Keyed.key (held shelf) ≡ true },
+}
+
+/// Why a register takes no record.
+#[derive(Clone, Copy, PartialEq, Eq, Debug)]
+pub enum Untaken {
+    Full,
 }

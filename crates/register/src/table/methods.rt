@@ -1,153 +1,81 @@
-//! The register's methods.
-ghost use Rattle.std.specs.Prelude.{◌≡◌, ◌+◌, ◌<◌, ◌≤◌, true, [], ◌∷◌, ◌++◌, length, if◌then◌else◌, nat_le, slice_index_or, slice_set};
-ghost use Rattle.std.specs.List.{insert};
-ghost use Rattle.register.specs.Keys.{at, put, fits, rising};
-ghost use Rattle.register.specs.Places.{Sought};
-ghost use Rattle.register.specs.Views.{held, room, Within};
+//! What a register does.
+ghost use Rattle.std.specs.Prelude.{◌≡◌, ◌+◌, ◌<◌, [], length, if◌then◌else◌, nat_le, slice_index_or, slice_set};
+ghost use Rattle.register.specs.Keys.{at, put, fits};
+ghost use Rattle.register.specs.Places.{Sought, taken_if};
+ghost use Rattle.register.specs.Views.{held, room};
 
-use super::Register;
-use super::seek::seek;
-use super::shift::make_room;
+use super::{Register, Untaken};
 use crate::keyed::Keyed;
+use crate::shelf::Shelf;
 
-impl<'a, T: Copy> Register<'a, T> {
+impl<'a, T: Keyed + Copy> Register<'a, T> {
     /// An empty register over lent memory, whatever that held.
     pub fn new(items: &'a mut [T]) -> Self
-        ensures empty { held result ≡ [] }
-        ensures sized { room result ≡ length items.old }
-        ensures within { Within result }
+        ensures empty { held result.shelf ≡ [] }
+        ensures sized { room result.shelf ≡ length items.old }
     {
-        Register { items, count: 0 }
-    }
-
-    /// How many records are held.
-    pub fn len(&self) -> usize
-        requires { Within self.now }
-        ensures { result ≡ length (held self.now) }
-    {
-        self.all().len()
+        let shelf = Shelf::new(items);
+        Register { shelf }
     }
 
     /// Whether there is room for `more` records.
     pub fn has_room(&self, more: usize) -> bool
-        requires { Within self.now }
-        ensures { result ≡ nat_le (length (held self.now) + more) (room self.now) }
+        ensures { result ≡ nat_le (length (held self.now.shelf) + more) (room self.now.shelf) }
     {
-        more <= self.items.len() - self.count
+        self.shelf.has_room(more)
     }
 
-    /// The records held, in their order.
+    /// The records held, by rising key.
     pub fn all(&self) -> &[T]
-        requires { Within self.now }
-        ensures { result.now ≡ held self.now }
+        ensures { result.now ≡ held self.now.shelf }
     {
-        let items = &*self.items;
-        &items[..self.count]
+        self.shelf.all()
     }
 
     /// Lets every record go; the memory is used again.
     pub fn clear(&mut self)
-        ensures after { held self.new ≡ [] }
-        ensures sized { room self.new ≡ room self.old }
-        ensures within { Within self.new }
+        ensures after { held self.new.shelf ≡ [] }
+        ensures sized { room self.new.shelf ≡ room self.old.shelf }
     {
-        self.count = 0;
+        self.shelf.clear();
     }
 
-    /// The record at a place.
-    pub fn get(&self, place: usize) -> T
-        requires within { Within self.now }
-        requires held_there { place < length (held self.now) }
-        ensures { result ≡ slice_index_or (held self.now) place result }
-    {
-        let items = &*self.items;
-        items[place]
-    }
-
-    /// Puts a record in the place of another.
-    pub fn replace(&mut self, place: usize, item: T)
-        requires within { Within self.old }
-        requires held_there { place < length (held self.old) }
-        ensures after { held self.new ≡ slice_set (held self.old) place item }
-        ensures sized { room self.new ≡ room self.old }
-        ensures within { Within self.new }
-    {
-        self.items[place] = item;
-    }
-
-    /// Adds a record at the end.
-    pub fn append(&mut self, item: T)
-        requires within { Within self.old }
-        requires has_room { length (held self.old) < room self.old }
-        ensures after { held self.new ≡ held self.old ++ item ∷ [] }
-        ensures sized { room self.new ≡ room self.old }
-        ensures within { Within self.new }
-    {
-        let count = self.count;
-        self.items[count] = item;
-        self.count = count + 1;
-    }
-
-    /// Adds a record before the one at a place.
-    fn insert(&mut self, before: usize, item: T)
-        requires within { Within self.old }
-        requires before_within { before ≤ length (held self.old) }
-        requires has_room { length (held self.old) < room self.old }
-        ensures after { held self.new ≡ insert (held self.old) before item }
-        ensures sized { room self.new ≡ room self.old }
-        ensures within { Within self.new }
-    {
-        let count = self.count;
-        make_room(self.items, before, count);
-        self.items[before] = item;
-        self.count = count + 1;
-    }
-}
-
-impl<'a, T: Keyed + Copy> Register<'a, T> {
+    /// Where the key stands, or else where it would go.
     fn place_of(&self, key: u64) -> Result<usize, usize>
-        requires within { Within self.now }
-        requires rises { rising T.Keyed.key (held self.now) ≡ true }
-        ensures { Sought T.Keyed.key key (held self.now) result }
+        ensures { Sought T.Keyed.key key (held self.now.shelf) result }
     {
-        let items = &*self.items;
-        seek(items, self.count, key)
+        self.all().binary_search_by_key(&key, |item| item.key())
     }
 
     /// The record with this key.
     pub fn look(&self, key: u64) -> Option<T>
-        requires within { Within self.now }
-        requires rises { rising T.Keyed.key (held self.now) ≡ true }
-        ensures { result ≡ at T.Keyed.key key (held self.now) }
+        ensures { result ≡ at T.Keyed.key key (held self.now.shelf) }
     {
-        match self.place_of(key) {
-            Ok(place) => Some(self.get(place)),
-            Err(_) => None,
-        }
+        let place = self.place_of(key).ok()?;
+        Some(self.shelf.get(place))
     }
 
-    /// Puts a record over the one with its key, or between those before and after it; refuses where there is no room for one more.
-    pub fn set(&mut self, item: T) -> bool
-        requires within { Within self.old }
-        requires rises { rising T.Keyed.key (held self.old) ≡ true }
-        ensures answer { result ≡ fits T.Keyed.key (room self.old) (held self.old) item }
-        ensures after { held self.new ≡ (if result then put T.Keyed.key item (held self.old) else held self.old) }
-        ensures sized { room self.new ≡ room self.old }
-        ensures within { Within self.new }
-        ensures rises { rising T.Keyed.key (held self.new) ≡ true }
+    /// Puts a record in the place of one with its key.
+    pub fn replace(&mut self, place: usize, item: T)
+        requires held_there { place < length (held self.old.shelf) }
+        requires same_key { T.Keyed.key (slice_index_or (held self.old.shelf) place item) ≡ T.Keyed.key item }
+        ensures after { held self.new.shelf ≡ slice_set (held self.old.shelf) place item }
+        ensures sized { room self.new.shelf ≡ room self.old.shelf }
+    {
+        self.shelf.replace(place, item);
+    }
+
+    /// Puts a record over the one with its key, or between those before and after it, where there is room for one more.
+    pub fn set(&mut self, item: T) -> Result<(), Untaken>
+        ensures answer { result ≡ taken_if (fits T.Keyed.key (room self.old.shelf) (held self.old.shelf) item) }
+        ensures after { held self.new.shelf ≡ (if fits T.Keyed.key (room self.old.shelf) (held self.old.shelf) item then put T.Keyed.key item (held self.old.shelf) else held self.old.shelf) }
+        ensures sized { room self.new.shelf ≡ room self.old.shelf }
     {
         match self.place_of(item.key()) {
-            Ok(place) => {
-                self.replace(place, item);
-                true
-            }
-            Err(place) => {
-                if !self.has_room(1) {
-                    return false;
-                }
-                self.insert(place, item);
-                true
-            }
+            Ok(place) => self.shelf.replace(place, item),
+            Err(_) if !self.has_room(1) => return Err(Untaken::Full),
+            Err(place) => self.shelf.insert(place, item),
         }
+        Ok(())
     }
 }

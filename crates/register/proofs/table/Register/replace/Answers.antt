@@ -1,11 +1,10 @@
-use Rattle.std.proofs.Common.{rules}
-use Rattle.std.proofs.lemmas.List.{length-set}
-use Rattle.register.proofs.Rooms.{take_set_front}
+use Rattle.std.proofs.Common.{ap, ◌∙◌}
+use Rattle.register.specs.Keys.{rising}
+use Rattle.register.specs.Views.{held}
+use Rattle.register.proofs.AtKeys.{rising_set}
 use Rattle.register.proofs.table.Register.replace.Goals as goal
 
-pub returns : goal.returns
-returns g c = record {
-  after = take_set_front c.args.self.now.count c.args.self.now.items.now c.args.place c.args.item;
-  sized = length-set c.args.self.now.items.now c.args.place c.args.item;
-  within = search (rules, length-set);
-}
+pub invariant_of-self : goal.invariant_of-self
+invariant_of-self g c =
+    let key = g.T.Keyed.key in
+    record { rises = ap (rising key) c.replace.ensures.after ∙ rising_set key c.args.item (held c.args.self.now.shelf) c.args.place c.args.self.now.rises c.requires.held_there c.requires.same_key }

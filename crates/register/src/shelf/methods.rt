@@ -1,0 +1,84 @@
+//! What a shelf does.
+ghost use Rattle.std.specs.Prelude.{◌≡◌, ◌+◌, ◌<◌, ◌≤◌, [], ◌∷◌, ◌++◌, length, nat_le, slice_index_or, slice_set};
+ghost use Rattle.std.specs.List.{insert};
+ghost use Rattle.register.specs.Views.{held, room};
+
+use super::Shelf;
+
+impl<'a, T: Copy> Shelf<'a, T> {
+    /// An empty shelf over lent memory, whatever that held.
+    pub fn new(items: &'a mut [T]) -> Self
+        ensures empty { held result ≡ [] }
+        ensures sized { room result ≡ length items.old }
+    {
+        Shelf { items, count: 0 }
+    }
+
+    /// How many records are held.
+    pub fn len(&self) -> usize
+        ensures { result ≡ length (held self.now) }
+    {
+        self.all().len()
+    }
+
+    /// Whether there is room for `more` records.
+    pub fn has_room(&self, more: usize) -> bool
+        ensures { result ≡ nat_le (length (held self.now) + more) (room self.now) }
+    {
+        more <= self.items.len() - self.count
+    }
+
+    /// The records held, in their order.
+    pub fn all(&self) -> &[T]
+        ensures { result.now ≡ held self.now }
+    {
+        let items = &*self.items;
+        &items[..self.count]
+    }
+
+    /// Adds a record at the end.
+    pub fn append(&mut self, item: T)
+        requires has_room { length (held self.old) < room self.old }
+        ensures after { held self.new ≡ held self.old ++ item ∷ [] }
+        ensures sized { room self.new ≡ room self.old }
+    {
+        self.items[self.count] = item;
+        self.count += 1;
+    }
+
+    /// Lets every record go; the memory is used again.
+    pub(crate) fn clear(&mut self)
+        ensures after { held self.new ≡ [] }
+        ensures sized { room self.new ≡ room self.old }
+    {
+        self.count = 0;
+    }
+
+    /// The record at a place.
+    pub(crate) fn get(&self, place: usize) -> T
+        requires held_there { place < length (held self.now) }
+        ensures { result ≡ slice_index_or (held self.now) place result }
+    {
+        self.all()[place]
+    }
+
+    /// Puts a record in the place of another.
+    pub(crate) fn replace(&mut self, place: usize, item: T)
+        requires held_there { place < length (held self.old) }
+        ensures after { held self.new ≡ slice_set (held self.old) place item }
+        ensures sized { room self.new ≡ room self.old }
+    {
+        self.items[place] = item;
+    }
+
+    /// Adds a record before the one at a place.
+    pub(crate) fn insert(&mut self, before: usize, item: T)
+        requires before_within { before ≤ length (held self.old) }
+        requires has_room { length (held self.old) < room self.old }
+        ensures after { held self.new ≡ insert (held self.old) before item }
+        ensures sized { room self.new ≡ room self.old }
+    {
+        self.append(item);
+        self.items[before..self.count].rotate_right(1);
+    }
+}
