@@ -47,7 +47,7 @@ impl<'a, T: Copy> Shelf<'a, T> {
     }
 
     /// Lets every record go; the memory is used again.
-    pub(crate) fn clear(&mut self)
+    pub fn clear(&mut self)
         ensures after { held self.new ≡ [] }
         ensures sized { room self.new ≡ room self.old }
     {
@@ -55,7 +55,7 @@ impl<'a, T: Copy> Shelf<'a, T> {
     }
 
     /// The record at a place.
-    pub(crate) fn get(&self, place: usize) -> T
+    pub fn get(&self, place: usize) -> T
         requires held_there { place < length (held self.now) }
         ensures { result ≡ slice_index_or (held self.now) place result }
     {
@@ -63,7 +63,7 @@ impl<'a, T: Copy> Shelf<'a, T> {
     }
 
     /// Puts a record in the place of another.
-    pub(crate) fn replace(&mut self, place: usize, item: T)
+    pub fn replace(&mut self, place: usize, item: T)
         requires held_there { place < length (held self.old) }
         ensures after { held self.new ≡ slice_set (held self.old) place item }
         ensures sized { room self.new ≡ room self.old }
