@@ -6,8 +6,8 @@ use crate::tiers::Tiers;
 pub struct Answer {
     pub injected: u32,
     pub withdrawn: u32,
-    pub bought: Tiers,
-    pub sold: Tiers,
+    pub bought: Tiers<u32>,
+    pub sold: Tiers<u32>,
     pub authorized: u32,
     pub unauthorized: u32,
 }

@@ -1,8 +1,8 @@
 //! The posting layer: over any day rule, and a day rule itself.
-ghost use Rattle.std.specs.Prelude.{◌≡◌, ◌-◌, ◌≤◌, true, slice_set};
+ghost use Rattle.std.specs.Prelude.{◌≡◌, ◌-◌, ◌≤◌, true, cond, slice_set};
 ghost use Rattle.tariff.specs.Each.{each};
 ghost use Rattle.tariff.specs.Figures.{with_maxima};
-ghost use Rattle.tariff.specs.Postings.{posting, unposted, no_postings, in_capacity, postable, post_on, posting_on, as_posted, under};
+ghost use Rattle.tariff.specs.Postings.{posting, no_postings, in_capacity, postable, post_on, posting_on, as_posted, under};
 ghost use Rattle.tariff.specs.Posted.{posting_high, under_fair, keeps_under};
 
 use crate::answer::Answer;
@@ -13,36 +13,33 @@ use crate::question::{LAST_DAY, Question};
 /// Most that can be posted, in hundredths of a percent: all of capacity.
 pub const MAX_POSTING: u16 = 10_000;
 
-/// A day's posted maxima in hundredths of a percent of capacity, or none.
+/// A day's posted maxima in hundredths of a percent of capacity.
 #[derive(Clone, Copy)]
 pub(crate) struct Posting {
-    posted: bool,
     max_injection: u16,
     max_withdrawal: u16,
 }
 
-const UNPOSTED: Posting = Posting {
-    posted: false,
-    max_injection: 0,
-    max_withdrawal: 0,
-};
+/// Why nothing was posted.
+#[derive(Clone, Copy, PartialEq, Eq, Debug)]
+pub enum PostingError {
+    OutsideLimits,
+}
 
-/// Thirty-one postings, one for each day number.
+/// A posting, or none, for each of thirty-one day numbers.
 #[derive(Clone, Copy)]
 pub(crate) struct Postings {
-    table: [Posting; 31],
+    table: [Option<Posting>; 31],
 }
 
 impl Postings {
     fn none() -> Postings
         ensures { result.table ≡ no_postings }
     {
-        Postings {
-            table: [UNPOSTED; 31],
-        }
+        Postings { table: [None; 31] }
     }
 
-    fn on(&self, day: u8) -> Posting
+    fn on(&self, day: u8) -> Option<Posting>
         requires { (1 ≤ day) × (day ≤ 31) }
         ensures { result ≡ posting_on day self.now.table }
     {
@@ -51,9 +48,9 @@ impl Postings {
 
     fn set(&mut self, day: u8, posting: Posting)
         requires { (1 ≤ day) × (day ≤ 31) }
-        ensures { self.new.table ≡ slice_set self.old.table (day - 1) posting }
+        ensures { self.new.table ≡ slice_set self.old.table (day - 1) (Some posting) }
     {
-        self.table[day as usize - 1] = posting;
+        self.table[day as usize - 1] = Some(posting);
     }
 }
 
@@ -90,27 +87,29 @@ impl<R> PostingLayer<R> {
         }
     }
 
-    /// Posts a day's maxima, in place of what was posted for it before; outside the limits it posts nothing and answers false.
-    pub fn post(&mut self, day: u8, max_injection: u16, max_withdrawal: u16) -> bool
-        ensures answer { result ≡ postable day max_injection max_withdrawal }
+    /// Posts a day's maxima, in place of what was posted for it before; outside the limits it posts nothing.
+    pub fn post(
+        &mut self,
+        day: u8,
+        max_injection: u16,
+        max_withdrawal: u16,
+    ) -> Result<(), PostingError>
+        ensures answer { result ≡ cond (postable day max_injection max_withdrawal) (Ok tt) (Err PostingError.OutsideLimits) }
         ensures table { self.new.postings.table ≡ post_on day max_injection max_withdrawal self.old.postings.table }
         ensures rule { self.new.rule ≡ self.old.rule }
     {
-        if day >= 1
-            && day <= LAST_DAY
+        let postable = (1..=LAST_DAY).contains(&day)
             && max_injection <= MAX_POSTING
-            && max_withdrawal <= MAX_POSTING
-        {
-            let posting = Posting {
-                posted: true,
-                max_injection,
-                max_withdrawal,
-            };
-            self.postings.set(day, posting);
-            true
-        } else {
-            false
+            && max_withdrawal <= MAX_POSTING;
+        if !postable {
+            return Err(PostingError::OutsideLimits);
         }
+        let posting = Posting {
+            max_injection,
+            max_withdrawal,
+        };
+        self.postings.set(day, posting);
+        Ok(())
     }
 
     /// Takes every posting away.
@@ -128,18 +127,16 @@ impl<R: DayRule> DayRule for PostingLayer<R> {
     ghost keeps = { λ s f h.
         let p = posting_on f.day s.postings.table in
         let high = posting_high f.day s.postings.table s.limits in
-        keeps_under p f _ (R.DayRule.keeps s.rule (under p f) (under_fair p f high.0 high.1 h)) };
+        keeps_under p f _ (R.DayRule.keeps s.rule (under p f) (under_fair p f high h)) };
 
     fn answer(&self, question: &Question) -> Answer {
         let f = question.figures();
-        let posting = self.postings.on(f.day);
-        if posting.posted {
-            let max_injection = share_of(f.capacity, posting.max_injection);
-            let max_withdrawal = share_of(f.capacity, posting.max_withdrawal);
-            let posted = question.with_maxima(max_injection, max_withdrawal);
-            self.rule.answer(&posted)
-        } else {
-            self.rule.answer(question)
-        }
+        let Some(posting) = self.postings.on(f.day) else {
+            return self.rule.answer(question);
+        };
+        let max_injection = share_of(f.capacity, posting.max_injection);
+        let max_withdrawal = share_of(f.capacity, posting.max_withdrawal);
+        let posted = question.with_maxima(max_injection, max_withdrawal);
+        self.rule.answer(&posted)
     }
 }
