@@ -8,7 +8,7 @@ use Rattle.register.specs.Keys.{rising}
 use Rattle.calls.specs.declared.fields.Call.{Call}
 use Rattle.calls.specs.declared.fields.Call.TheVariants.{BeginMonth, OpenAccount, MoveAccount, SetGasCost, SetPrice, BeginDay, Nominate, EndDay, Reallocate, Read, Settle, Close, Post}
 use Rattle.ledger.specs.declared.records.Account.{Account}
-use Rattle.ledger.specs.declared.records.RowTiers.{RowTiers}
+use Rattle.tariff.specs.declared.tiers.Tiers.{Tiers}
 use Rattle.ledger.specs.declared.records.Row.{Row}
 use Rattle.ledger.specs.Sums.{added, owed, below, belowℤ}
 use Rattle.ledger.specs.State.{State, number, known, storage_of, supplier_of, standing, of_supplier}
@@ -18,7 +18,7 @@ use Rattle.ledger.specs.Effects.{done, begun_kind}
 use Rattle.ledger.specs.Runs.{History, Leads, fresh, refused, accepted}
 use Rattle.ledger.specs.Count.{Count, count, delivered}
 
-abbrev pub all_tiers : RowTiers → ℕ
+abbrev pub all_tiers : Tiers ℕ → ℕ
 all_tiers t = t.first + t.second + t.third
 
 -- the therms of one account's rows

@@ -8,7 +8,7 @@ use Rattle.calls.specs.declared.fields.Call.{Call}
 use Rattle.calls.specs.declared.fields.Call.TheVariants.{BeginMonth, OpenAccount, SetGasCost, SetPrice, BeginDay, Nominate, EndDay, Reallocate, Read, Settle}
 use Rattle.calls.specs.declared.refusal.Refusal.TheVariants.{OutsideWindow, TotalChanged, ReadingMissing}
 use Rattle.calls.specs.Limits.{blank_line}
-use Rattle.ledger.specs.declared.records.RowTiers.{RowTiers}
+use Rattle.tariff.specs.declared.tiers.Tiers.{Tiers}
 use Rattle.ledger.specs.declared.records.Row.{Row}
 use Rattle.ledger.specs.declared.records.RowKind.TheVariants as Kinds
 use Rattle.ledger.specs.State.{State}
@@ -64,10 +64,10 @@ ended = run published start morning
 abbrev pub written : List Row
 written = (run published ended evening).rows
 
-abbrev pub tiers : ℕ → ℕ → ℕ → RowTiers
+abbrev pub tiers : ℕ → ℕ → ℕ → Tiers ℕ
 tiers a b c = record { first = a; second = b; third = c }
 
-abbrev pub day_row : ℕ → ℕ → ℕ → ℕ → ℕ → RowTiers → RowTiers → ℕ → ℤ → Row
+abbrev pub day_row : ℕ → ℕ → ℕ → ℕ → ℕ → Tiers ℕ → Tiers ℕ → ℕ → ℤ → Row
 day_row account delivered used injected withdrawn bought sold storage cents = record {
   kind = Kinds.Day;
   date = date 2025 8 1;

@@ -12,3 +12,4 @@ pub mod Terms
 pub mod Later
 pub mod Law
 pub mod Ready
+pub mod Kinds

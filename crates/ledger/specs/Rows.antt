@@ -13,7 +13,6 @@ use Rattle.calls.specs.declared.fields.PriceQuote.{PriceQuote}
 use Rattle.ledger.specs.declared.records.Account.{Account}
 use Rattle.ledger.specs.declared.records.DayKind.{DayKind}
 use Rattle.ledger.specs.declared.records.DayKind.TheVariants.{Ordinary, Critical}
-use Rattle.ledger.specs.declared.records.RowTiers.{RowTiers}
 use Rattle.ledger.specs.declared.records.Row.{Row}
 use Rattle.ledger.specs.declared.records.RowKind.TheVariants as Rows
 use Rattle.ledger.specs.State.{State, days_of, price_on, shown, amount, standing, of_account}
@@ -54,10 +53,7 @@ abbrev pub settled_account : Rules → DayKind → State → Account → Account
 settled_account rules kind s a =
     record { number = a.number; supplier = a.supplier; capacity = a.capacity; storage = (settle_one rules kind s a).storage_after; reading = None }
 
-abbrev pub row_tiers : Tiers → RowTiers
-row_tiers t = record { first = t.first; second = t.second; third = t.third }
-
-abbrev pub no_tiers : RowTiers
+abbrev pub no_tiers : Tiers ℕ
 no_tiers = record { first = 0; second = 0; third = 0 }
 
 -- the row of a day that was settled: the question, and what came of it
@@ -71,8 +67,8 @@ row_of_day s a question day = record {
   used = question.used;
   injected = day.answer.injected;
   withdrawn = day.answer.withdrawn;
-  bought = row_tiers day.answer.bought;
-  sold = row_tiers day.answer.sold;
+  bought = day.answer.bought;
+  sold = day.answer.sold;
   authorized = day.answer.authorized;
   unauthorized = day.answer.unauthorized;
   storage_after = day.storage_after;
@@ -106,8 +102,8 @@ closed_row s a =
       used = 0;
       injected = 0;
       withdrawn = 0;
-      bought = row_tiers close.bought;
-      sold = row_tiers close.sold;
+      bought = close.bought;
+      sold = close.sold;
       authorized = 0;
       unauthorized = 0;
       storage_after = close.storage_after;

@@ -9,13 +9,25 @@ use Rattle.tariff.specs.Prices.{average}
 use Rattle.tariff.specs.Settling.{published_day, settled}
 use Rattle.tariff.specs.Closing.{closed}
 use Rattle.ledger.specs.declared.records.Account.{Account}
-use Rattle.ledger.specs.declared.records.CloseTerms.{CloseTerms}
-use Rattle.ledger.specs.declared.records.DayTerms.{DayTerms}
 use Rattle.ledger.specs.declared.records.Row.{Row}
 use Rattle.ledger.specs.declared.records.RowKind.TheVariants as Rows
 use Rattle.ledger.specs.declared.records.Stage.TheVariants.{Between}
 use Rattle.ledger.specs.State.{State, days_of, amount, standing, of_account}
-use Rattle.ledger.specs.Rows.{Rule, index_on, market_on, row_tiers, index_total}
+use Rattle.ledger.specs.Rows.{Rule, index_on, market_on, index_total}
+
+-- what a gas day is settled by, alike for every account: prices in hundredths of a cent per therm, loss in hundredths of a percent
+pub record DayTerms : Type 0 where
+  pub date : Date
+  pub loss : ℕ
+  pub gas_cost : ℕ
+  pub index : ℕ
+  pub market : ℕ
+
+-- what a month is closed by, alike for every account
+pub record CloseTerms : Type 0 where
+  pub last_day : Date
+  pub gas_cost : ℕ
+  pub average_index : ℕ
 
 -- what the day begun is settled by
 abbrev pub day_terms : State → DayTerms
@@ -51,8 +63,8 @@ row_on date a question day = record {
   used = question.used;
   injected = day.answer.injected;
   withdrawn = day.answer.withdrawn;
-  bought = row_tiers day.answer.bought;
-  sold = row_tiers day.answer.sold;
+  bought = day.answer.bought;
+  sold = day.answer.sold;
   authorized = day.answer.authorized;
   unauthorized = day.answer.unauthorized;
   storage_after = day.storage_after;
@@ -94,8 +106,8 @@ row_after_close t a =
       used = 0;
       injected = 0;
       withdrawn = 0;
-      bought = row_tiers close.bought;
-      sold = row_tiers close.sold;
+      bought = close.bought;
+      sold = close.sold;
       authorized = 0;
       unauthorized = 0;
       storage_after = close.storage_after;

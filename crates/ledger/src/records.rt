@@ -1,9 +1,12 @@
 //! The records that the book keeps.
+ghost use Rattle.ledger.specs.Kinds.{Numbers};
+
 use register::keyed::Keyed;
 use tariff::calendar::Date;
+use tariff::tiers::Tiers;
 
 /// An account; its reading is absent until the meter brings it.
-#[derive(Clone, Copy)]
+#[derive(Clone, Copy, PartialEq, Eq, Debug)]
 pub struct Account {
     pub number: u32,
     pub supplier: u16,
@@ -13,14 +16,32 @@ pub struct Account {
 }
 
 /// The kind of a gas day.
-#[derive(Clone, Copy)]
+#[derive(Clone, Copy, PartialEq, Eq, Debug)]
 pub enum DayKind {
     Ordinary,
     Critical,
 }
 
+/// A number that is no kind of a gas day.
+#[derive(Clone, Copy, PartialEq, Eq, Debug)]
+pub struct UnknownKind(pub u8);
+
+impl TryFrom<u8> for DayKind {
+    type Error = UnknownKind;
+
+    ghost try_from_gives = { Numbers };
+
+    fn try_from(number: u8) -> Result<Self, UnknownKind> {
+        match number {
+            0 => Ok(DayKind::Ordinary),
+            1 => Ok(DayKind::Critical),
+            _ => Err(UnknownKind(number)),
+        }
+    }
+}
+
 /// Where the book stands.
-#[derive(Clone, Copy)]
+#[derive(Clone, Copy, PartialEq, Eq, Debug)]
 pub enum Stage {
     Unopened,
     Between,
@@ -30,22 +51,14 @@ pub enum Stage {
 }
 
 /// Whether a row is a settled day's or a month's close.
-#[derive(Clone, Copy)]
+#[derive(Clone, Copy, PartialEq, Eq, Debug)]
 pub enum RowKind {
     Day,
     Close,
 }
 
-/// Therms in three tiers, wide enough to be summed over many months.
-#[derive(Clone, Copy)]
-pub struct RowTiers {
-    pub first: u64,
-    pub second: u64,
-    pub third: u64,
-}
-
-/// A row of the journal: therms, and cents with their sign.
-#[derive(Clone, Copy)]
+/// A row of the journal: therms, wide enough to be summed over many months, and cents with their sign.
+#[derive(Clone, Copy, PartialEq, Eq, Debug)]
 pub struct Row {
     pub kind: RowKind,
     pub date: Date,
@@ -55,30 +68,12 @@ pub struct Row {
     pub used: u64,
     pub injected: u64,
     pub withdrawn: u64,
-    pub bought: RowTiers,
-    pub sold: RowTiers,
+    pub bought: Tiers<u64>,
+    pub sold: Tiers<u64>,
     pub authorized: u64,
     pub unauthorized: u64,
     pub storage_after: u64,
     pub cents: i64,
-}
-
-/// What a gas day is settled by, alike for every account: prices in hundredths of a cent per therm, loss in hundredths of a percent.
-#[derive(Clone, Copy)]
-pub struct DayTerms {
-    pub date: Date,
-    pub loss: u16,
-    pub gas_cost: u32,
-    pub index: u32,
-    pub market: u32,
-}
-
-/// What a month is closed by, alike for every account.
-#[derive(Clone, Copy)]
-pub struct CloseTerms {
-    pub last_day: Date,
-    pub gas_cost: u32,
-    pub average_index: u32,
 }
 
 /// Accounts go by number.
