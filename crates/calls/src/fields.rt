@@ -4,7 +4,7 @@
 pub const MAX_SHIFTS: u8 = 200;
 
 /// Opens the year's month, with its loss in hundredths of a percent.
-#[derive(Clone, Copy)]
+#[derive(Clone, Copy, PartialEq, Eq, Debug)]
 pub struct MonthBegin {
     pub year: u16,
     pub month: u8,
@@ -12,7 +12,7 @@ pub struct MonthBegin {
 }
 
 /// Opens an account.
-#[derive(Clone, Copy)]
+#[derive(Clone, Copy, PartialEq, Eq, Debug)]
 pub struct AccountOpening {
     pub account: u32,
     pub supplier: u16,
@@ -21,20 +21,20 @@ pub struct AccountOpening {
 }
 
 /// Moves an account to another supplier.
-#[derive(Clone, Copy)]
+#[derive(Clone, Copy, PartialEq, Eq, Debug)]
 pub struct AccountMove {
     pub account: u32,
     pub supplier: u16,
 }
 
 /// The month's gas cost, in hundredths of a cent per therm.
-#[derive(Clone, Copy)]
+#[derive(Clone, Copy, PartialEq, Eq, Debug)]
 pub struct GasCost {
     pub gas_cost: u32,
 }
 
 /// A day's index and market price, in hundredths of a cent per therm.
-#[derive(Clone, Copy)]
+#[derive(Clone, Copy, PartialEq, Eq, Debug)]
 pub struct PriceQuote {
     pub day: u8,
     pub index: u32,
@@ -42,14 +42,15 @@ pub struct PriceQuote {
 }
 
 /// Begins a gas day: kind 0 is ordinary, 1 is Critical.
-#[derive(Clone, Copy)]
+// The kind is a byte and no enum: any byte may come, and a call past its limits is a call too.
+#[derive(Clone, Copy, PartialEq, Eq, Debug)]
 pub struct DayBegin {
     pub day: u8,
     pub kind: u8,
 }
 
 /// One account's therms on one pipeline.
-#[derive(Clone, Copy)]
+#[derive(Clone, Copy, PartialEq, Eq, Debug)]
 pub struct Line {
     pub account: u32,
     pub pipeline: u8,
@@ -57,18 +58,19 @@ pub struct Line {
 }
 
 /// Nominates a line, at a minute of the day.
-#[derive(Clone, Copy)]
+#[derive(Clone, Copy, PartialEq, Eq, Debug)]
 pub struct Nomination {
     pub line: Line,
     pub minute: u16,
 }
 
 /// Ends the gas day.
-#[derive(Clone, Copy)]
+#[derive(Clone, Copy, PartialEq, Eq, Debug)]
 pub struct DayEnd {}
 
 /// Shifts a supplier's therms among its lines, at a minute of the day: the first `count` lines count, the others are blank.
-#[derive(Clone, Copy)]
+// An array and no `Vec`: a call is a plain value with no heap, and any count may come.
+#[derive(Clone, Copy, PartialEq, Eq, Debug)]
 pub struct Reallocation {
     pub supplier: u16,
     pub minute: u16,
@@ -77,22 +79,22 @@ pub struct Reallocation {
 }
 
 /// What an account's meter read for the day.
-#[derive(Clone, Copy)]
+#[derive(Clone, Copy, PartialEq, Eq, Debug)]
 pub struct MeterReading {
     pub account: u32,
     pub therms: u32,
 }
 
 /// Settles the gas day.
-#[derive(Clone, Copy)]
+#[derive(Clone, Copy, PartialEq, Eq, Debug)]
 pub struct DaySettle {}
 
 /// Closes the month.
-#[derive(Clone, Copy)]
+#[derive(Clone, Copy, PartialEq, Eq, Debug)]
 pub struct MonthClosing {}
 
 /// Posts a day's maxima, in hundredths of a percent of capacity.
-#[derive(Clone, Copy)]
+#[derive(Clone, Copy, PartialEq, Eq, Debug)]
 pub struct PostedMaxima {
     pub day: u8,
     pub max_injection: u16,
@@ -100,7 +102,7 @@ pub struct PostedMaxima {
 }
 
 /// Every kind of call. A posting goes to the posting layer, all others to the book.
-#[derive(Clone, Copy)]
+#[derive(Clone, Copy, PartialEq, Eq, Debug)]
 pub enum Call {
     BeginMonth(MonthBegin),
     OpenAccount(AccountOpening),

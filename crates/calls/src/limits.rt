@@ -1,6 +1,7 @@
 //! The one test of a call's limits, which the reader and the book share.
 ghost use Rattle.std.specs.Prelude.{◌≡◌, Bool};
-ghost use Rattle.tariff.specs.Each.{each};
+ghost use Rattle.tariff.specs.Options.{when};
+ghost use Rattle.std.specs.List.{list_all};
 ghost use Rattle.calls.specs.Limits.{month_begin_within, opening_within, move_within, gas_cost_within, price_within, day_begin_within, line_within, nomination_within, day_end_within, is_blank, reallocation_within, reading_within, settle_within, closing_within, posting_within, within};
 
 use crate::fields::{
@@ -24,23 +25,35 @@ pub const LAST_MINUTE: u16 = 1_439;
 /// The kind of a Critical Day; 0 is an ordinary one.
 pub const CRITICAL: u8 = 1;
 
+/// A place of a reallocation that names no line.
+pub const BLANK: Line = Line {
+    account: 0,
+    pipeline: 0,
+    therms: 0,
+};
+
 /// What has limits, and can be tested against them.
-pub trait Limited {
+pub trait Limited: Copy {
     // Whether every field is within its limits.
     ghost limits: { Self → Bool };
 
     fn within_limits(&self) -> bool
         ensures { result ≡ limits self.now };
+
+    /// The value itself, where it is within its limits.
+    fn checked(self) -> Option<Self>
+        ensures { result ≡ when (limits self) self }
+    {
+        self.within_limits().then_some(self)
+    }
 }
 
 impl Limited for MonthBegin {
     ghost limits = { month_begin_within };
 
     fn within_limits(&self) -> bool {
-        self.year >= FIRST_YEAR
-            && self.year <= LAST_YEAR
-            && self.month >= 1
-            && self.month <= 12
+        (FIRST_YEAR..=LAST_YEAR).contains(&self.year)
+            && (1..=12).contains(&self.month)
             && self.loss <= MAX_LOSS
     }
 }
@@ -49,8 +62,7 @@ impl Limited for AccountOpening {
     ghost limits = { opening_within };
 
     fn within_limits(&self) -> bool {
-        self.account >= 1
-            && self.account <= MAX_ACCOUNT
+        (1..=MAX_ACCOUNT).contains(&self.account)
             && self.supplier >= 1
             && self.capacity <= MAX_CAPACITY
             && self.storage <= self.capacity
@@ -61,7 +73,7 @@ impl Limited for AccountMove {
     ghost limits = { move_within };
 
     fn within_limits(&self) -> bool {
-        self.account >= 1 && self.account <= MAX_ACCOUNT && self.supplier >= 1
+        (1..=MAX_ACCOUNT).contains(&self.account) && self.supplier >= 1
     }
 }
 
@@ -77,7 +89,7 @@ impl Limited for PriceQuote {
     ghost limits = { price_within };
 
     fn within_limits(&self) -> bool {
-        self.day >= 1 && self.day <= LAST_DAY && self.index <= MAX_PRICE && self.market <= MAX_PRICE
+        (1..=LAST_DAY).contains(&self.day) && self.index <= MAX_PRICE && self.market <= MAX_PRICE
     }
 }
 
@@ -85,7 +97,7 @@ impl Limited for DayBegin {
     ghost limits = { day_begin_within };
 
     fn within_limits(&self) -> bool {
-        self.day >= 1 && self.day <= LAST_DAY && self.kind <= CRITICAL
+        (1..=LAST_DAY).contains(&self.day) && self.kind <= CRITICAL
     }
 }
 
@@ -93,10 +105,8 @@ impl Limited for Line {
     ghost limits = { line_within };
 
     fn within_limits(&self) -> bool {
-        self.account >= 1
-            && self.account <= MAX_ACCOUNT
-            && self.pipeline >= 1
-            && self.pipeline <= PIPELINES
+        (1..=MAX_ACCOUNT).contains(&self.account)
+            && (1..=PIPELINES).contains(&self.pipeline)
             && self.therms <= MAX_LINE_THERMS
     }
 }
@@ -109,6 +119,7 @@ impl Limited for Nomination {
     }
 }
 
+// Three kinds have no fields. A body of the trait's own is proved for any limits, so it cannot be their `true`.
 impl Limited for DayEnd {
     ghost limits = { day_end_within };
 
@@ -117,49 +128,27 @@ impl Limited for DayEnd {
     }
 }
 
-impl Line {
-    fn is_blank(&self) -> bool
-        ensures { result ≡ is_blank self.now }
-    {
-        self.account == 0 && self.pipeline == 0 && self.therms == 0
-    }
-}
-
 fn lines_within(lines: &[Line]) -> bool
-    ensures { result ≡ each line_within lines.now }
+    ensures { result ≡ list_all line_within lines.now }
 {
-    for line in lines {
-        if !line.within_limits() {
-            return false;
-        }
-    }
-    true
+    lines.iter().all(|line| line.within_limits())
 }
 
 fn lines_blank(lines: &[Line]) -> bool
-    ensures { result ≡ each is_blank lines.now }
+    ensures { result ≡ list_all is_blank lines.now }
 {
-    for line in lines {
-        if !line.is_blank() {
-            return false;
-        }
-    }
-    true
+    lines.iter().all(|line| *line == BLANK)
 }
 
 impl Limited for Reallocation {
     ghost limits = { reallocation_within };
 
     fn within_limits(&self) -> bool {
-        if self.supplier < 1
-            || self.minute > LAST_MINUTE
-            || self.count < 1
-            || self.count > MAX_SHIFTS
-        {
-            return false;
-        }
-        let count = self.count as usize;
-        lines_within(&self.lines[0..count]) && lines_blank(&self.lines[count..])
+        self.supplier >= 1
+            && self.minute <= LAST_MINUTE
+            && (1..=MAX_SHIFTS).contains(&self.count)
+            && lines_within(&self.lines[..self.count as usize])
+            && lines_blank(&self.lines[self.count as usize..])
     }
 }
 
@@ -167,7 +156,7 @@ impl Limited for MeterReading {
     ghost limits = { reading_within };
 
     fn within_limits(&self) -> bool {
-        self.account >= 1 && self.account <= MAX_ACCOUNT && self.therms <= MAX_DAY_THERMS
+        (1..=MAX_ACCOUNT).contains(&self.account) && self.therms <= MAX_DAY_THERMS
     }
 }
 
@@ -191,8 +180,7 @@ impl Limited for PostedMaxima {
     ghost limits = { posting_within };
 
     fn within_limits(&self) -> bool {
-        self.day >= 1
-            && self.day <= LAST_DAY
+        (1..=LAST_DAY).contains(&self.day)
             && self.max_injection <= MAX_POSTING
             && self.max_withdrawal <= MAX_POSTING
     }
