@@ -1,6 +1,9 @@
 //! What a refused call returns: each case holds what it names.
 ghost use Rattle.std.specs.Prelude.{◌≡◌};
+ghost use Rattle.calls.specs.declared.refusal.Refusal.TheVariants.{NoSpace};
 ghost use Rattle.calls.specs.Refusals.{number_of, named_of, posting_number};
+
+use register::table::Untaken;
 
 /// Why the book refuses a call.
 #[derive(Clone, Copy, PartialEq, Eq, Debug)]
@@ -28,6 +31,17 @@ pub enum Refusal {
 pub enum PostingRefusal {
     WrongStage,
     NotDue,
+}
+
+/// What a register has no room for, the book has no space for.
+impl From<Untaken> for Refusal {
+    ghost from_gives = { λ _ refusal. refusal ≡ NoSpace };
+
+    fn from(untaken: Untaken) -> Refusal {
+        match untaken {
+            Untaken::Full => Refusal::NoSpace,
+        }
+    }
 }
 
 impl Refusal {

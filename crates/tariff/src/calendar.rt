@@ -9,7 +9,7 @@ pub const FIRST_YEAR: u16 = 2024;
 pub const LAST_YEAR: u16 = 2099;
 
 /// A calendar day.
-#[derive(Clone, Copy)]
+#[derive(Clone, Copy, PartialEq, Eq, PartialOrd, Ord, Debug)]
 pub struct Date {
     pub year: u16,
     pub month: u8,
