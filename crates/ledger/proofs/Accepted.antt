@@ -7,7 +7,8 @@ use Rattle.calls.specs.declared.fields.Call.{Call}
 use Rattle.calls.specs.declared.refusal.Refusal.{Refusal}
 use Rattle.calls.specs.Limits.{within}
 use Rattle.ledger.specs.State.{State, known, supplier_of}
-use Rattle.ledger.specs.Table.{Condition, refuse_if, refuse_naming, first_such, Entry, table, first, or_else, verdict, taken_in, accounts_meant, given_already, no_space, is_due, shifted, shifted_by, changes, pipelines, settles, unpriced}
+use Rattle.std.specs.List.{find}
+use Rattle.ledger.specs.Table.{Condition, refuse_if, refuse_naming, Entry, table, first, or_else, verdict, taken_in, accounts_meant, given_already, no_space, is_due, shifted, shifted_by, changes, pipelines, settles, unpriced}
 
 pub record Accepted (s : State) (c : Call) : Type 0 where
   pub fields : within c ≡ true
@@ -33,12 +34,12 @@ pub off : (b : Bool) (r : Refusal) → refuse_if b r ≡ None → b ≡ false
 off true r h = absurd (let bad : ◌≡◌ {A = ℕ} 0 1 = cc in omega arith)
 off false r h = refl
 
-none_on : {X : Type 0} (name : X → Refusal) (test : X → Bool) (x : X) (xs : List X) → (refuse_naming name (first_such test xs) ≡ None → AllByRecursion (λ y. test y ≡ false) xs)
-    → (b : Bool) → test x ≡ b → refuse_naming name (cond b (Some x) (first_such test xs)) ≡ None → AllByRecursion (λ y. test y ≡ false) (x ∷ xs)
+none_on : {X : Type 0} (name : X → Refusal) (test : X → Bool) (x : X) (xs : List X) → (refuse_naming name (find test xs) ≡ None → AllByRecursion (λ y. test y ≡ false) xs)
+    → (b : Bool) → test x ≡ b → refuse_naming name (cond b (Some x) (find test xs)) ≡ None → AllByRecursion (λ y. test y ≡ false) (x ∷ xs)
 none_on name test x xs later true e g = absurd (let bad : ◌≡◌ {A = ℕ} 0 1 = cc in omega arith)
 none_on name test x xs later false e g = (e, later g)
 
-none_such : {X : Type 0} (name : X → Refusal) (test : X → Bool) (xs : List X) → refuse_naming name (first_such test xs) ≡ None → AllByRecursion (λ x. test x ≡ false) xs
+none_such : {X : Type 0} (name : X → Refusal) (test : X → Bool) (xs : List X) → refuse_naming name (find test xs) ≡ None → AllByRecursion (λ x. test x ≡ false) xs
 none_such name test [] h = tt
 none_such name test (x ∷ xs) h = none_on name test x xs (none_such name test xs) (test x) refl h
 

@@ -1,5 +1,6 @@
 -- Which call is refused, and why. Every number has its condition; the smallest number whose condition holds is the refusal.
 use Rattle.std.specs.Prelude.{◌≡◌, ℕ, ◌+◌, ◌<◌, Bool, true, false, cond, not, ◌&&◌, ◌||◌, List, [], ◌∷◌, map, length, is_some, Some, None, Option, ◌==◌, nat_le, nat_lt}
+use Rattle.std.specs.List.{find}
 use Rattle.std.specs.List.{ContainsAt, AllByRecursion}
 use Rattle.tariff.specs.Calendar.{critical_season, following}
 use Rattle.calls.specs.declared.fields.Line.{Line}
@@ -20,11 +21,6 @@ Condition = Option Refusal
 
 abbrev pub refuse_if : Bool → Refusal → Condition
 refuse_if b r = cond b (Some r) None
-
--- the first of a list that a test picks
-abbrev pub first_such : {X : Type 0} → (X → Bool) → List X → Option X
-first_such test [] = None
-first_such test (x ∷ xs) = cond (test x) (Some x) (first_such test xs)
 
 -- a refusal that names what was picked
 abbrev pub refuse_naming : {X : Type 0} → (X → Refusal) → Option X → Condition
@@ -277,7 +273,7 @@ abbrev pub unpriced : State → Bool
 unpriced s = not (is_some s.gas_cost && is_some (price_on (s.settled + 1) s.prices))
 
 abbrev pub unread : List Account → Option Account
-unread accounts = first_such (λ a. not (has_reading a)) accounts
+unread accounts = find (λ a. not (has_reading a)) accounts
 
 -- a number with its condition
 pub record Entry : Type 0 where
@@ -292,14 +288,14 @@ abbrev pub table : State → Call → List Entry
 table s c =
     entry 3 (refuse_if (not (within c)) OutsideLimits)
     ∷ entry 4 (refuse_if (not (taken_in s.stage c)) WrongStage)
-    ∷ entry 5 (refuse_naming NoAccount (first_such (λ n. not (known n s.accounts)) (accounts_meant c)))
+    ∷ entry 5 (refuse_naming NoAccount (find (λ n. not (known n s.accounts)) (accounts_meant c)))
     ∷ entry 6 (given_already s c)
     ∷ entry 7 (refuse_if (no_space s c) NoSpace)
     ∷ entry 8 (refuse_if (not (in_window c)) OutsideWindow)
     ∷ entry 9 (refuse_if (not (is_due s c)) NotDue)
     ∷ entry 10 (refuse_if (out_of_season s c) OutOfSeason)
-    ∷ entry 11 (refuse_naming (λ l. OtherSupplier l.account) (first_such (λ l. not (supplier_of l.account s.accounts == shifted_by c)) (shifted c)))
-    ∷ entry 12 (refuse_naming TotalChanged (first_such (changes s (shifted c)) pipelines))
+    ∷ entry 11 (refuse_naming (λ l. OtherSupplier l.account) (find (λ l. not (supplier_of l.account s.accounts == shifted_by c)) (shifted c)))
+    ∷ entry 12 (refuse_naming TotalChanged (find (changes s (shifted c)) pipelines))
     ∷ entry 13 (refuse_if (settles c && unpriced s) PriceMissing)
     ∷ entry 14 (cond (settles c) (refuse_naming (λ a. ReadingMissing a.number) (unread s.accounts)) None)
     ∷ []

@@ -94,25 +94,26 @@ account_after_close t a =
     record { number = a.number; supplier = a.supplier; capacity = a.capacity; storage = (closed_on t a).storage_after; reading = a.reading }
 
 -- a close's row has the month's last day, and 0 in the columns that it lacks
+abbrev pub row_of_close : Date → Account → MonthClose → Row
+row_of_close last_day a close = record {
+  kind = Rows.Close;
+  date = last_day;
+  account = a.number;
+  supplier = a.supplier;
+  delivered = 0;
+  used = 0;
+  injected = 0;
+  withdrawn = 0;
+  bought = close.bought;
+  sold = close.sold;
+  authorized = 0;
+  unauthorized = 0;
+  storage_after = close.storage_after;
+  cents = close.cents;
+}
+
 abbrev pub row_after_close : CloseTerms → Account → Row
-row_after_close t a =
-    let close = closed_on t a in
-    record {
-      kind = Rows.Close;
-      date = t.last_day;
-      account = a.number;
-      supplier = a.supplier;
-      delivered = 0;
-      used = 0;
-      injected = 0;
-      withdrawn = 0;
-      bought = close.bought;
-      sold = close.sold;
-      authorized = 0;
-      unauthorized = 0;
-      storage_after = close.storage_after;
-      cents = close.cents;
-    }
+row_after_close t a = row_of_close t.last_day a (closed_on t a)
 
 -- every account settled by a rule and a row for each, in rising number; lines and readings go
 abbrev pub day_settled_by : Rule → State → State

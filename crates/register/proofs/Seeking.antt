@@ -4,11 +4,10 @@ use Rattle.std.specs.Cmp.{ranks}
 use Rattle.std.specs.List.{AllByRecursion}
 use Rattle.std.specs.List.Sorted.{IsBinarySearchResult, IsSearchInRange}
 use Rattle.std.specs.Ordering.{nat_cmp, ordering_index, MatchOrdering}
-use Rattle.std.proofs.lemmas.Bool.{and_parts}
 use borrow.Author.Tests.{tests}
-use Rattle.register.specs.Keys.{all_above, rising}
+use Rattle.register.specs.Keys.{rising}
 use Rattle.register.specs.Places.{Sought}
-use Rattle.register.proofs.Rising.{above_at}
+use Rattle.register.proofs.Rising.{never_falls}
 
 pub all_before : {X : Type 0} (P : X → Type 0) (xs : List X) (m : ℕ) → m ≤ length xs → ((i : ℕ) (d : X) → 0 ≤ i → i < m → P (get_or xs i d)) → AllByRecursion P (take m xs)
 all_before P xs zero le h = tt
@@ -22,14 +21,6 @@ all_from P (x ∷ xs) zero h = (h zero x (omega arith) (omega arith), all_from P
 all_from P (x ∷ xs) (suc m) h = all_from P xs m (λ i d low lt. h (suc i) d (omega arith) (omega arith))
 
 module _ {X : Type 0} (key : X → ℕ) (k : ℕ) where
-  never_falls : (xs : List X) → rising key xs ≡ true → (i j : ℕ) (d : X) → i ≤ j → j < length xs → key (get_or xs i d) ≤ key (get_or xs j d)
-  never_falls [] r i j d le lt = absurd (omega arith)
-  never_falls (x ∷ xs) r zero zero d le lt = omega arith
-  never_falls (x ∷ xs) r zero (suc j) d le lt =
-      let up = above_at key (key x) xs j d (and_parts (all_above key (key x) xs) (rising key xs) r).0 (omega arith) in omega arith
-  never_falls (x ∷ xs) r (suc i) zero d le lt = absurd (omega arith)
-  never_falls (x ∷ xs) r (suc i) (suc j) d le lt = never_falls xs (and_parts (all_above key (key x) xs) (rising key xs) r).1 i j d (omega arith) (omega arith)
-
   abbrev Told : Ordering → X → Type 0
   Told o x = MatchOrdering o (key x < k) (key x ≡ k) (k < key x)
 
@@ -43,5 +34,5 @@ module _ {X : Type 0} (key : X → ℕ) (k : ℕ) where
   pub sought : (xs : List X) (r : Result ℕ ℕ) → rising key xs ≡ true → IsSearchInRange r (length xs) → IsBinarySearchResult (λ x. nat_cmp (key x) k) xs r → Sought key k xs r
   sought xs (Ok i) up bound h = (bound, λ d. told _ _ (h d))
   sought xs (Err i) up bound h =
-      let parted = h (λ a b d le lt. higher (key (get_or xs a d)) (key (get_or xs b d)) (never_falls xs up a b d le lt)) in
+      let parted = h (λ a b d le lt. higher (key (get_or xs a d)) (key (get_or xs b d)) (never_falls key xs up a b d le lt)) in
       (bound, all_before (λ x. key x < k) xs i bound (λ j d low lt. told _ _ (parted.0 j d low lt)), all_from (λ x. k < key x) xs i (λ j d low lt. told _ _ (parted.1 j d low lt)))

@@ -1,15 +1,22 @@
--- The limits of what a day is settled by, and a month closed by.
-use Rattle.std.specs.Prelude.{Bool, ◌&&◌, nat_le}
-use Rattle.tariff.specs.Calendar.{in_calendar}
-use Rattle.tariff.specs.Loss.{most_loss}
-use Rattle.calls.specs.Limits.{between, is_price}
-use Rattle.ledger.specs.declared.records.DayTerms.{DayTerms}
-use Rattle.ledger.specs.declared.records.CloseTerms.{CloseTerms}
+-- What a gas day is settled by, and a month closed by, read off the tariff's own values.
+use Rattle.tariff.specs.declared.calendar.Month.{Month}
+use Rattle.tariff.specs.declared.prices.MonthPrices.{MonthPrices}
+use Rattle.tariff.specs.declared.settling.GasDay.{GasDay}
+use Rattle.tariff.specs.Calendar.{date, days_in}
+use Rattle.ledger.specs.Terms.{DayTerms, CloseTerms}
 
-abbrev pub terms_within : DayTerms → Bool
-terms_within t =
-    in_calendar t.date.year t.date.month && between 1 31 t.date.day && nat_le t.loss most_loss
-    && is_price t.gas_cost && is_price t.index && is_price t.market
+abbrev pub terms_of_day : GasDay → DayTerms
+terms_of_day d = record {
+  date = date d.month.year d.month.number d.day;
+  loss = d.loss.hundredths;
+  gas_cost = d.prices.gas_cost.hundredths;
+  index = d.prices.index.hundredths;
+  market = d.prices.market.hundredths;
+}
 
-abbrev pub close_terms_within : CloseTerms → Bool
-close_terms_within t = in_calendar t.last_day.year t.last_day.month && is_price t.gas_cost && is_price t.average_index
+abbrev pub terms_of_close : Month → MonthPrices → CloseTerms
+terms_of_close m p = record {
+  last_day = date m.year m.number (days_in m.year m.number);
+  gas_cost = p.gas_cost.hundredths;
+  average_index = p.average_index.hundredths;
+}

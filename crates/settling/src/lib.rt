@@ -8,7 +8,6 @@
 
 pub mod close;
 pub mod day;
-pub(crate) mod known;
 pub(crate) mod lines;
 pub mod prices;
 pub mod readings;

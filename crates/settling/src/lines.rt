@@ -1,6 +1,5 @@
-//! One pass over the lines, which stand sorted by account: what an account's lines come to, and where the later ones begin. It never
-//! looks back.
-ghost use Rattle.std.specs.Prelude.{◌≡◌, ℕ, ◌<◌, ◌≤◌, true, length, drop};
+//! One pass over the lines, which stand sorted by account: what an account's lines come to. It never looks back.
+ghost use Rattle.std.specs.Prelude.{◌≡◌, ℕ, ◌^◌, ◌<◌, ◌≤◌, true, ◌==◌, filter, sum_by};
 ghost use Rattle.tariff.specs.Each.{each};
 ghost use Rattle.register.specs.Keys.{rising};
 ghost use Rattle.calls.specs.Limits.{line_within};
@@ -8,30 +7,36 @@ ghost use Rattle.ledger.specs.State.{line_key, standing, of_account};
 
 use calls::fields::Line;
 
-/// An account's lines added up, and where the lines of later accounts begin.
-#[derive(Clone, Copy)]
-pub(crate) struct Run {
-    pub(crate) therms: u32,
-    pub(crate) next: usize,
+/// The therms of those lines that are the account's.
+fn therms_of(lines: &[Line], number: u32) -> u32
+    requires { sum_by (λ l. l.therms) (filter (λ l. l.account == number) lines.now) < 2 ^ 32 }
+    ensures { result ≡ sum_by (λ l. l.therms) (filter (λ l. l.account == number) lines.now) }
+{
+    lines
+        .iter()
+        .filter(|line| line.account == number)
+        .map(|line| line.therms)
+        .sum()
 }
 
-/// Adds up the lines of an account that stand from a place on, and passes those of lower accounts.
-pub(crate) fn run_of(lines: &[Line], from: usize, number: u32) -> Run
-    requires from_within { from ≤ length lines.now }
-    requires lines_rise { rising line_key lines.now ≡ true }
-    requires lines_within { each line_within lines.now ≡ true }
-    requires deliverable { standing (of_account number) (drop from lines.now) ≤ 8000000 }
-    ensures therms { result.therms ≡ standing (of_account number) (drop from lines.now) }
-    ensures within { result.next ≤ length lines.now }
-    ensures later { (m : ℕ) → number < m → standing (of_account m) (drop result.next lines.now) ≡ standing (of_account m) (drop from lines.now) }
-{
-    let mut therms = 0;
-    let mut next = from;
-    while next < lines.len() && lines[next].account <= number {
-        if lines[next].account == number {
-            therms += lines[next].therms;
-        }
-        next += 1;
+/// The lines that are still ahead, sorted by account.
+#[derive(Clone, Copy)]
+pub(crate) struct Ahead<'l> {
+    pub(crate) lines: &'l [Line],
+    ghost rise: { rising line_key lines.now ≡ true },
+    ghost within: { each line_within lines.now ≡ true },
+}
+
+impl<'l> Ahead<'l> {
+    /// Adds up the account's lines, and passes them and those of lower accounts.
+    pub(crate) fn pass(&mut self, number: u32) -> u32
+        requires deliverable { standing (of_account number) self.old.lines.now ≤ 8000000 }
+        ensures therms { result ≡ standing (of_account number) self.old.lines.now }
+        ensures later { (m : ℕ) → number < m → standing (of_account m) self.new.lines.now ≡ standing (of_account m) self.old.lines.now }
+    {
+        let passed = self.lines.partition_point(|line| line.account <= number);
+        let (mine, later) = self.lines.split_at(passed);
+        self.lines = later;
+        therms_of(mine, number)
     }
-    Run { therms, next }
 }

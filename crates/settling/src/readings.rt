@@ -8,10 +8,8 @@ use ledger::records::Account;
 pub fn first_unread(accounts: &[Account]) -> Option<Account>
     ensures { result ≡ unread accounts.now }
 {
-    for account in accounts {
-        if account.reading.is_none() {
-            return Some(*account);
-        }
-    }
-    None
+    accounts
+        .iter()
+        .copied()
+        .find(|account| account.reading.is_none())
 }

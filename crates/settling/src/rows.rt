@@ -1,71 +1,59 @@
 //! Rows written out: the account's own columns, and what came of its day or close. Nothing is worked out here.
 ghost use Rattle.std.specs.Prelude.{◌≡◌};
-ghost use Rattle.ledger.specs.Rows.{row_tiers};
-ghost use Rattle.ledger.specs.Terms.{row_on, closed_on, row_after_close};
+ghost use Rattle.tariff.specs.Calendar.{date, days_in};
+ghost use Rattle.ledger.specs.Terms.{row_on, row_of_close};
 
-use ledger::records::{Account, CloseTerms, Row, RowKind, RowTiers};
-use tariff::calendar::Date;
+use ledger::records::{Account, Row, RowKind};
+use tariff::calendar::{Date, Month};
 use tariff::closing::MonthClose;
 use tariff::question::Figures;
 use tariff::settling::SettledDay;
-use tariff::tiers::Tiers;
-
-fn wide_tiers(tiers: &Tiers) -> RowTiers
-    ensures { result ≡ row_tiers tiers.now }
-{
-    RowTiers {
-        first: tiers.first as u64,
-        second: tiers.second as u64,
-        third: tiers.third as u64,
-    }
-}
 
 /// The row of a settled day.
 pub(crate) fn settled_row(
-    date: &Date,
+    date: Date,
     account: &Account,
     question: &Figures,
     day: &SettledDay,
 ) -> Row
-    ensures { result ≡ row_on date.now account.now question.now day.now }
+    ensures { result ≡ row_on date account.now question.now day.now }
 {
     Row {
         kind: RowKind::Day,
-        date: *date,
+        date,
         account: account.number,
         supplier: account.supplier,
-        delivered: question.delivered as u64,
-        used: question.used as u64,
-        injected: day.answer.injected as u64,
-        withdrawn: day.answer.withdrawn as u64,
-        bought: wide_tiers(&day.answer.bought),
-        sold: wide_tiers(&day.answer.sold),
-        authorized: day.answer.authorized as u64,
-        unauthorized: day.answer.unauthorized as u64,
-        storage_after: day.storage_after as u64,
+        delivered: u64::from(question.delivered),
+        used: u64::from(question.used),
+        injected: u64::from(day.answer.injected),
+        withdrawn: u64::from(day.answer.withdrawn),
+        bought: day.answer.bought.into(),
+        sold: day.answer.sold.into(),
+        authorized: u64::from(day.answer.authorized),
+        unauthorized: u64::from(day.answer.unauthorized),
+        storage_after: u64::from(day.storage_after),
         cents: day.cents,
     }
 }
 
 /// The row of a close; a close has no day's columns.
-pub(crate) fn closed_row(terms: &CloseTerms, account: &Account, close: &MonthClose) -> Row
-    requires { close.now ≡ closed_on terms.now account.now }
-    ensures { result ≡ row_after_close terms.now account.now }
+pub(crate) fn closed_row(month: &Month, account: &Account, close: &MonthClose) -> Row
+    ensures { result ≡ row_of_close (date month.now.year month.now.number (days_in month.now.year month.now.number)) account.now close.now }
 {
     Row {
         kind: RowKind::Close,
-        date: terms.last_day,
+        date: month.last_day(),
         account: account.number,
         supplier: account.supplier,
         delivered: 0,
         used: 0,
         injected: 0,
         withdrawn: 0,
-        bought: wide_tiers(&close.bought),
-        sold: wide_tiers(&close.sold),
+        bought: close.bought.into(),
+        sold: close.sold.into(),
         authorized: 0,
         unauthorized: 0,
-        storage_after: close.storage_after as u64,
+        storage_after: u64::from(close.storage_after),
         cents: close.cents,
     }
 }
