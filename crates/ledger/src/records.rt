@@ -1,6 +1,9 @@
 //! The records that the book keeps.
+ghost use Rattle.std.specs.Prelude.{◌≡◌};
+ghost use Rattle.ledger.specs.Effects.{opened};
 ghost use Rattle.ledger.specs.Kinds.{Numbers};
 
+use calls::fields::AccountOpening;
 use register::keyed::Keyed;
 use tariff::calendar::Date;
 use tariff::tiers::Tiers;
@@ -13,6 +16,21 @@ pub struct Account {
     pub capacity: u32,
     pub storage: u32,
     pub reading: Option<u32>,
+}
+
+/// An account as it opens.
+impl From<AccountOpening> for Account {
+    ghost from_gives = { λ c account. account ≡ opened c };
+
+    fn from(c: AccountOpening) -> Account {
+        Account {
+            number: c.account,
+            supplier: c.supplier,
+            capacity: c.capacity,
+            storage: c.storage,
+            reading: None,
+        }
+    }
 }
 
 /// The kind of a gas day.

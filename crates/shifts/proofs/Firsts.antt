@@ -1,87 +1,79 @@
--- The first of a list that a test picks, step by step.
-use Rattle.std.proofs.Common.{◌≡◌, ℕ, zero, suc, ◌+◌, ◌-◌, ◌<◌, ◌≤◌, Bool, true, false, cond, ◌||◌, eqb, List, [], ◌∷◌, ◌++◌, map, reverse, length, get_or, take, drop, is_some, Some, None, Option, sym, refl, ap, ◌∙◌, arith}
+-- The first of a list that a test picks: what `find` answers, what `1..=8` gives, and the lines that repeat an earlier one.
+use denote.Param.Members.{Mut}
+use denote.Ref.{Bor}
 use mathlib.Core.List.{reverse-cons}
-use Rattle.std.specs.Option.{option_map}
-use Rattle.std.proofs.lemmas.List.{take_more, at_drop_more, at_drop_all, reverse-append}
+use Rattle.std.proofs.Common.{◌≡◌, ℕ, ◌+◌, ◌-◌, ◌<◌, Bool, true, false, ◌||◌, eqb, List, [], ◌∷◌, ◌++◌, reverse, length, get_or, take, drop, Some, Option, sym, refl, ap, ◌∙◌, subst, add-one, arith}
+use Rattle.std.specs.declared.ops.RangeInclusive.{RangeInclusive}
+use Rattle.std.specs.Fn.{CalledAt}
+use Rattle.std.specs.Iterator.{FindsItem}
+use Rattle.std.specs.List.{find, list_any, range_with_len}
+use Rattle.std.specs.Range.{range_inclusive_start, range_inclusive_end, range_inclusive_exhausted, range_inclusive_len}
+use Rattle.std.proofs.iter.runs.Sources.{nat_range_inclusive_steps}
 use Rattle.std.proofs.lemmas.Bool.{cond-true, cond-false}
+use Rattle.std.proofs.lemmas.Bool.Decides.{nat_tests}
+use Rattle.std.proofs.lemmas.Iterator.{YieldsList}
+use Rattle.std.proofs.lemmas.Iterator.Adapters.{option_map_id}
+use Rattle.std.proofs.lemmas.Iterator.Consumers.{YieldsList-from_shown}
+use Rattle.std.proofs.lemmas.Iterator.Search.{find_from_yields_List}
+use Rattle.std.proofs.lemmas.List.{take_more, at_drop_more, reverse-append}
+use Rattle.std.proofs.lemmas.List.FromFn.{length-range_with_len}
 use Rattle.calls.specs.declared.fields.Line.{Line}
 use Rattle.ledger.specs.State.{line_key}
-use Rattle.ledger.specs.Table.{first_such, first_repeated, among, pipelines}
+use Rattle.ledger.specs.Table.{first_repeated, among, pipelines}
 
-module _ {X : Type 0} (test : X → Bool) (xs : List X) (i : ℕ) (d : X) where
-  pub such_found : i < length xs → test (get_or xs i d) ≡ true → first_such test (drop i xs) ≡ Some (get_or xs i d)
-  such_found h t = at_drop_more (first_such test) xs i d h ∙ cond-true _ _ _ t
+-- what `find` answers over a chain of values, where the closure computes the test
+pub found_by : {S A F : Type 0} {steps : S → Option A → S → Type 0} {g : Mut F (Bor A × Unit {0}) Bool} {s : S} {all : List A} (test : A → Bool) (u : S) (f : F) (r : Option A)
+    → FindsItem steps g s f r u → YieldsList steps (λ x. x) s all → ((x : A) (b : Bool) (q : F) → CalledAt g f x b q → (q ≡ f) × (b ≡ test x)) → r ≡ find test all
+found_by test u f r ran yields calls = sym (option_map_id r) ∙ find_from_yields_List test u f r ran yields calls
 
-  pub such_passed : i < length xs → test (get_or xs i d) ≡ false → first_such test (drop i xs) ≡ first_such test (drop (i + 1) xs)
-  such_passed h t = at_drop_more (first_such test) xs i d h ∙ cond-false _ _ _ t
+-- what `a..=b` has left
+abbrev many : ℕ → ℕ → Bool → ℕ
+many a b spent = range_inclusive_len (λ x y. y - x) a b spent
 
-pub such_ended : {X : Type 0} (test : X → Bool) (xs : List X) (i : ℕ) → length xs ≤ i → first_such test (drop i xs) ≡ None
-such_ended test xs i h = at_drop_all (first_such test) xs i h
+abbrev left : RangeInclusive ℕ → List ℕ
+left s = range_with_len (range_inclusive_start s) (many (range_inclusive_start s) (range_inclusive_end s) (range_inclusive_exhausted s))
 
--- what is picked of a list made from another
-pub such_map : {X Y : Type 0} (f : X → Y) (test : Y → Bool) (xs : List X) → first_such test (map f xs) ≡ option_map f (first_such (λ x. test (f x)) xs)
-such_map f test [] = refl
-such_map {X} {Y} f test (x ∷ xs) = picked (test (f x)) _ _ (such_map f test xs)
-  where
-    picked : (b : Bool) (o : Option Y) (p : Option X) → o ≡ option_map f p → cond b (Some (f x)) o ≡ option_map f (cond b (Some x) p)
-    picked true o p e = refl
-    picked false o p e = e
+one_left : (a n m : ℕ) → m + 1 ≡ n → range_with_len a n ≡ a ∷ range_with_len (a + 1) m
+one_left a n m e = ap (range_with_len a) (sym e ∙ add-one m)
+
+moved : (spent : Bool) (a c b : ℕ) → (spent ≡ false → c ≡ a) → range_with_len a (many c b spent) ≡ range_with_len c (many c b spent)
+moved true a c b h = refl
+moved false a c b h = ap (λ k. range_with_len k (many c b false)) (sym (h refl))
+
+eight : (a b : ℕ) (spent : Bool) → a ≡ 1 → b ≡ 8 → spent ≡ false → range_with_len a (many a b spent) ≡ pipelines
+eight a b spent e f g = rw (e, f, g)
+
+pub pipelines_given : {s : RangeInclusive ℕ} → range_inclusive_start s ≡ 1 → range_inclusive_end s ≡ 8 → range_inclusive_exhausted s ≡ false → YieldsList nat_range_inclusive_steps (λ x. x) s pipelines
+pipelines_given {s} e f g =
+    subst (λ ys. YieldsList nat_range_inclusive_steps (λ x. x) s ys) (eight _ _ _ e f g)
+    (YieldsList-from_shown nat_range_inclusive_steps (λ x. x) left (λ s t h. length-range_with_len _ _ ∙ h.1.0)
+    (λ s x t h. one_left _ _ _ h.1.1 ∙ ap (λ ys. range_inclusive_start s ∷ ys) (moved _ _ _ _ h.1.2) ∙ ap (λ n. n ∷ left t) (sym h.1.0)) s)
 
 -- the same key among the lines passed, from the last to the first
-abbrev same_key : ℕ → Line → Bool
+abbrev pub same_key : ℕ → Line → Bool
 same_key k l = eqb (line_key l) k
 
 among_push : (k : ℕ) (ls : List Line) (l : Line) → among k (ls ++ (l ∷ [])) ≡ (same_key k l || among k ls)
 among_push k [] l = refl
-among_push k (x ∷ ls) l = turned (same_key k x) (same_key k l) _ _ (among_push k ls l)
-  where
-    turned : (a b c d : Bool) → c ≡ (b || d) → (a || c) ≡ (b || (a || d))
-    turned true true c d e = refl
-    turned true false c d e = refl
-    turned false b c d e = e
+among_push k (x ∷ ls) l = let ih = among_push k ls l in grind (arith, nat_tests)
 
-pub among_passed : (k : ℕ) (ls : List Line) → is_some (first_such (same_key k) ls) ≡ among k (reverse ls)
+among_passed : (k : ℕ) (ls : List Line) → list_any (same_key k) ls ≡ among k (reverse ls)
 among_passed k [] = refl
 among_passed k (l ∷ ls) =
-    one (same_key k l) _ _ (among_passed k ls) ∙ sym (among_push k (reverse ls) l) ∙ ap (among k) (sym (reverse-cons l ls))
-  where
-    one : (b : Bool) (o : Option Line) (a : Bool) → is_some o ≡ a → is_some (cond b (Some l) o) ≡ (b || a)
-    one true o a e = refl
-    one false o a e = e
+    ap (λ b. same_key k l || b) (among_passed k ls) ∙ sym (among_push k (reverse ls) l) ∙ ap (among k) (sym (reverse-cons l ls))
 
 module _ (xs : List Line) (i : ℕ) (d : Line) (h : i < length xs) where
   passed_more : reverse (take (i + 1) xs) ≡ get_or xs i d ∷ reverse (take i xs)
   passed_more = ap reverse (take_more xs i d h) ∙ reverse-append (take i xs) (get_or xs i d ∷ [])
 
-  pub repeated_found : is_some (first_such (same_key (line_key (get_or xs i d))) (take i xs)) ≡ true → first_repeated (reverse (take i xs)) (drop i xs) ≡ Some (get_or xs i d)
+  abbrev again : Bool
+  again = list_any (same_key (line_key (get_or xs i d))) (take i xs)
+
+  pub repeated_found : again ≡ true → first_repeated (reverse (take i xs)) (drop i xs) ≡ Some (get_or xs i d)
   repeated_found e =
       at_drop_more (first_repeated (reverse (take i xs))) xs i d h ∙ cond-true _ _ _ (sym (among_passed (line_key (get_or xs i d)) (take i xs)) ∙ e)
 
-  pub repeated_passed : is_some (first_such (same_key (line_key (get_or xs i d))) (take i xs)) ≡ false → first_repeated (reverse (take i xs)) (drop i xs) ≡ first_repeated (reverse (take (i + 1) xs)) (drop (i + 1) xs)
+  pub repeated_passed : again ≡ false → first_repeated (reverse (take i xs)) (drop i xs) ≡ first_repeated (reverse (take (i + 1) xs)) (drop (i + 1) xs)
   repeated_passed e =
       at_drop_more (first_repeated (reverse (take i xs))) xs i d h ∙ cond-false _ _ _ (sym (among_passed (line_key (get_or xs i d)) (take i xs)) ∙ e)
       ∙ ap (λ ls. first_repeated ls (drop (i + 1) xs)) (sym passed_more)
-
--- the pipelines from a number on
-pipeline_at : (k : ℕ) → k < 8 → get_or pipelines k 0 ≡ k + 1
-pipeline_at zero h = refl
-pipeline_at (suc zero) h = refl
-pipeline_at (suc (suc zero)) h = refl
-pipeline_at (suc (suc (suc zero))) h = refl
-pipeline_at (suc (suc (suc (suc zero)))) h = refl
-pipeline_at (suc (suc (suc (suc (suc zero))))) h = refl
-pipeline_at (suc (suc (suc (suc (suc (suc zero)))))) h = refl
-pipeline_at (suc (suc (suc (suc (suc (suc (suc zero))))))) h = refl
-pipeline_at (suc (suc (suc (suc (suc (suc (suc (suc k)))))))) h = absurd (omega arith)
-
-module _ (test : ℕ → Bool) (p : ℕ) (low : 1 ≤ p) (high : p < 9) where
-  here : get_or pipelines (p - 1) 0 ≡ p
-  here = let back : p - 1 + 1 ≡ p = omega arith in pipeline_at (p - 1) (omega arith) ∙ back
-
-  pub pipeline_found : test p ≡ true → first_such test (drop (p - 1) pipelines) ≡ Some p
-  pipeline_found t = such_found test pipelines (p - 1) 0 (omega arith) (ap test here ∙ t) ∙ ap (λ n. Some n) here
-
-  pub pipeline_passed : test p ≡ false → first_such test (drop (p - 1) pipelines) ≡ first_such test (drop (p + 1 - 1) pipelines)
-  pipeline_passed t =
-      let on : p - 1 + 1 ≡ p + 1 - 1 = omega arith in
-      such_passed test pipelines (p - 1) 0 (omega arith) (ap test here ∙ t) ∙ ap (λ n. first_such test (drop n pipelines)) on

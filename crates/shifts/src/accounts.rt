@@ -1,64 +1,32 @@
 //! The accounts that a reallocation names: the first that is not known, and the first line of another supplier's account.
 //!
 //! Nothing here looks at therms or pipelines.
-ghost use Rattle.std.specs.Prelude.{◌≡◌, true, not, map, ◌==◌};
-ghost use Rattle.register.specs.Keys.{rising};
-ghost use Rattle.register.specs.Views.{held, Within};
-ghost use Rattle.ledger.specs.State.{number, known, supplier_of};
-ghost use Rattle.ledger.specs.Table.{first_such};
+ghost use Rattle.std.specs.Prelude.{◌≡◌, not, map, ◌==◌};
+ghost use Rattle.register.specs.Views.{held};
+ghost use Rattle.ledger.specs.State.{known, supplier_of};
+ghost use Rattle.std.specs.List.{find};
 
-use crate::condition::{Condition, first_such};
 use calls::fields::Line;
 use ledger::records::Account;
 use register::table::Register;
 
-/// The line's account is not known.
-#[derive(Drop)]
-struct Unknown<'b, 'a> {
-    accounts: &'b Register<'a, Account>,
-}
-
-impl<'b, 'a> Condition for Unknown<'b, 'a> {
-    ghost fits = { λ t. Within t.accounts.now × (rising number (held t.accounts.now) ≡ true) };
-
-    ghost holds = { λ t l. not (known l.account (held t.accounts.now)) };
-
-    fn holds(&self, line: &Line) -> bool {
-        self.accounts.look(line.account as u64).is_none()
-    }
-}
-
-/// The line's account is not the supplier's.
-#[derive(Drop)]
-struct OfOther<'b, 'a> {
-    accounts: &'b Register<'a, Account>,
-    supplier: u16,
-}
-
-impl<'b, 'a> Condition for OfOther<'b, 'a> {
-    ghost fits = { λ t. Within t.accounts.now × (rising number (held t.accounts.now) ≡ true) };
-
-    ghost holds = { λ t l. not (supplier_of l.account (held t.accounts.now) == t.supplier) };
-
-    fn holds(&self, line: &Line) -> bool {
-        match self.accounts.look(line.account as u64) {
-            Some(account) => account.supplier != self.supplier,
-            None => self.supplier != 0,
-        }
-    }
-}
-
 /// The first account named that is not known.
 pub fn first_unknown(accounts: &Register<Account>, named: &[Line]) -> Option<u32>
-    requires within { Within accounts.now }
-    requires rises { rising number (held accounts.now) ≡ true }
-    ensures { result ≡ first_such (λ n. not (known n (held accounts.now))) (map (λ l. l.account) named.now) }
+    ensures { result ≡ find (λ n. not (known n (held accounts.now.shelf))) (map (λ l. l.account) named.now) }
 {
-    let test = Unknown { accounts };
-    match first_such(&test, named) {
-        Some(line) => Some(line.account),
-        None => None,
-    }
+    named
+        .iter()
+        .map(|line| line.account)
+        .find(|account| accounts.look(u64::from(*account)).is_none())
+}
+
+/// The supplier of an account, or 0 where it is not known.
+fn supplier_of(accounts: &Register<Account>, account: u32) -> u16
+    ensures { result ≡ supplier_of account (held accounts.now.shelf) }
+{
+    accounts
+        .look(u64::from(account))
+        .map_or(0, |found| found.supplier)
 }
 
 /// The first line whose account is not the supplier's; an account that is not known has supplier 0.
@@ -67,10 +35,10 @@ pub fn first_of_other_supplier(
     supplier: u16,
     named: &[Line],
 ) -> Option<Line>
-    requires within { Within accounts.now }
-    requires rises { rising number (held accounts.now) ≡ true }
-    ensures { result ≡ first_such (λ l. not (supplier_of l.account (held accounts.now) == supplier)) named.now }
+    ensures { result ≡ find (λ l. not (supplier_of l.account (held accounts.now.shelf) == supplier)) named.now }
 {
-    let test = OfOther { accounts, supplier };
-    first_such(&test, named)
+    named
+        .iter()
+        .copied()
+        .find(|line| supplier_of(accounts, line.account) != supplier)
 }

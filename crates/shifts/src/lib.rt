@@ -5,7 +5,6 @@
 #![tactic(auto)]
 
 pub mod accounts;
-pub mod condition;
 pub mod repeats;
 pub mod totals;
 pub mod writes;

@@ -5,4 +5,5 @@
 
 #![tactic(auto)]
 
+pub mod rules;
 pub mod tables;

@@ -1,6 +1,7 @@
 //! What a book holds, in lent memory.
 use calls::fields::{Line, PriceQuote};
 use ledger::records::{Account, Row, Stage};
+use register::shelf::Shelf;
 use register::table::Register;
 
 pub(crate) mod accounts;
@@ -11,8 +12,9 @@ pub(crate) mod opening;
 pub(crate) mod prices;
 pub(crate) mod settlement;
 
-/// What a book holds. Its methods ask for the tables' invariant; the book carries it, since a struct with a ghost field beside lent
-/// memory could not hand that memory on.
+/// What a book holds.
+// What one table owes another (a price its month, an account its lines) is asked for by the methods that lean on it: the book proves it
+// once for every call, from the law over runs, and as a ghost field here each method would prove it again.
 #[derive(Drop)]
 pub struct Tables<'a> {
     pub stage: Stage,
@@ -24,5 +26,5 @@ pub struct Tables<'a> {
     pub accounts: Register<'a, Account>,
     pub lines: Register<'a, Line>,
     pub prices: Register<'a, PriceQuote>,
-    pub rows: Register<'a, Row>,
+    pub rows: Shelf<'a, Row>,
 }

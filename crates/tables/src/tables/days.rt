@@ -7,23 +7,12 @@ ghost use Rattle.ledger.specs.declared.records.Stage.TheVariants.{Nominating};
 ghost use Rattle.ledger.specs.Table.{is_unopened};
 ghost use Rattle.ledger.specs.Effects.{with_stage, kind_of};
 ghost use Rattle.ledger.specs.Ready.{Ready};
-ghost use Rattle.tables.specs.States.{state_of, left_by, later_answer, Kept, Untouched};
+ghost use Rattle.tables.specs.States.{state_of, left_by, later_answer, Untouched};
 
 use super::Tables;
 use calls::fields::DayBegin;
-use calls::limits::CRITICAL;
 use calls::refusal::Refusal;
 use ledger::records::{DayKind, Stage};
-
-fn kind_of(kind: u8) -> DayKind
-    ensures { result ≡ kind_of kind }
-{
-    if kind == 0 {
-        DayKind::Ordinary
-    } else {
-        DayKind::Critical
-    }
-}
 
 impl<'a> Tables<'a> {
     fn is_next_day(&self, day: u8) -> bool
@@ -35,11 +24,9 @@ impl<'a> Tables<'a> {
     }
 
     pub fn begin_day(&mut self, c: &DayBegin) -> Result<usize, Refusal>
-        requires kept { Kept self.old }
         requires ready { Ready (state_of self.old) }
         requires opened { is_unopened self.old.stage ≡ false }
         requires limits { day_begin_within c.now ≡ true }
-        ensures kept { Kept self.new }
         ensures after { state_of self.new ≡ left_by (state_of self.old) (BeginDay c.now) (with_stage (Nominating (kind_of c.now.kind)) (state_of self.old)) }
         ensures answer { result ≡ later_answer (state_of self.old) (BeginDay c.now) }
         ensures unchanged { Untouched result self.old self.new }
@@ -47,10 +34,11 @@ impl<'a> Tables<'a> {
         if !self.is_next_day(c.day) {
             return Err(Refusal::NotDue);
         }
-        if c.kind == CRITICAL && !self.calendar_month().in_critical_season() {
+        let kind = DayKind::try_from(c.kind).unwrap();
+        if kind == DayKind::Critical && !self.calendar_month().in_critical_season() {
             return Err(Refusal::OutOfSeason);
         }
-        self.stage = Stage::Nominating(kind_of(c.kind));
+        self.stage = Stage::Nominating(kind);
         Ok(0)
     }
 }

@@ -4,8 +4,7 @@ ghost use Rattle.calls.specs.declared.fields.Call.TheVariants.{Nominate, Realloc
 ghost use Rattle.calls.specs.Limits.{reallocation_within, named_lines};
 ghost use Rattle.ledger.specs.Effects.{with_lines, put_line, put_lines};
 ghost use Rattle.ledger.specs.Runs.{answer_by, after_by};
-ghost use Rattle.ledger.specs.Ready.{Ready};
-ghost use Rattle.tables.specs.States.{state_of, left_by, later_answer, shift_verdict, Kept, Untouched};
+ghost use Rattle.tables.specs.States.{state_of, left_by, later_answer, shift_verdict, allowed_by, Untouched};
 
 use super::Tables;
 use calls::fields::{Line, Nomination, Reallocation};
@@ -27,86 +26,68 @@ pub(crate) const LAST_SHIFT_MINUTE: u16 = 930;
 
 impl<'a> Tables<'a> {
     pub fn nominate(&mut self, c: &Nomination) -> Result<usize, Refusal>
-        requires kept { Kept self.old }
-        requires ready { Ready (state_of self.old) }
-        ensures kept { Kept self.new }
         ensures after { state_of self.new ≡ left_by (state_of self.old) (Nominate c.now) (with_lines (put_line c.now.line (state_of self.old).lines) (state_of self.old)) }
         ensures answer { result ≡ later_answer (state_of self.old) (Nominate c.now) }
         ensures unchanged { Untouched result self.old self.new }
     {
-        let account = c.line.account;
-        if self.accounts.look(account as u64).is_none() {
-            return Err(Refusal::NoAccount { account });
-        }
+        self.account(c.line.account)?;
         if self.lines.look(c.line.key()).is_none() && !self.lines.has_room(1) {
             return Err(Refusal::NoSpace);
         }
         if c.minute > NOMINATION_DEADLINE_MINUTE {
             return Err(Refusal::OutsideWindow);
         }
-        let _ = self.lines.set(c.line);
+        self.lines.set(c.line).unwrap();
         Ok(0)
     }
 
-    /// Why a reallocation is refused, past its limits and its stage.
-    fn shift_refusal(&self, supplier: u16, minute: u16, named: &[Line]) -> Option<Refusal>
-        requires kept { Kept self.now }
-        requires ready { Ready (state_of self.now) }
-        requires few { length named.now ≤ 200 }
-        ensures { result ≡ shift_verdict (state_of self.now) supplier minute named.now }
+    /// Refuses a reallocation past its limits and its stage, or allows it.
+    fn check_shift(&self, supplier: u16, minute: u16, named: &[Line]) -> Result<(), Refusal>
+        requires { length named.now ≤ 200 }
+        ensures { result ≡ allowed_by (shift_verdict (state_of self.now) supplier minute named.now) }
     {
         if let Some(account) = first_unknown(&self.accounts, named) {
-            return Some(Refusal::NoAccount { account });
+            return Err(Refusal::NoAccount { account });
         }
         if let Some(line) = first_repeated(named) {
-            return Some(Refusal::LineRepeated {
+            return Err(Refusal::LineRepeated {
                 account: line.account,
             });
         }
         if !self.lines.has_room(count_absent(&self.lines, named)) {
-            return Some(Refusal::NoSpace);
+            return Err(Refusal::NoSpace);
         }
-        if minute < FIRST_SHIFT_MINUTE || minute > LAST_SHIFT_MINUTE {
-            return Some(Refusal::OutsideWindow);
+        if !(FIRST_SHIFT_MINUTE..=LAST_SHIFT_MINUTE).contains(&minute) {
+            return Err(Refusal::OutsideWindow);
         }
         if let Some(line) = first_of_other_supplier(&self.accounts, supplier, named) {
-            return Some(Refusal::OtherSupplier {
+            return Err(Refusal::OtherSupplier {
                 account: line.account,
             });
         }
         if let Some(pipeline) = first_changed(&self.lines, named) {
-            return Some(Refusal::TotalChanged { pipeline });
+            return Err(Refusal::TotalChanged { pipeline });
         }
-        None
+        Ok(())
     }
 
     fn shift(&mut self, supplier: u16, minute: u16, named: &[Line]) -> Result<usize, Refusal>
-        requires kept { Kept self.old }
-        requires ready { Ready (state_of self.old) }
-        requires few { length named.now ≤ 200 }
-        ensures kept { Kept self.new }
+        requires { length named.now ≤ 200 }
         ensures after { state_of self.new ≡ after_by (shift_verdict (state_of self.old) supplier minute named.now) (with_lines (put_lines named.now (state_of self.old).lines) (state_of self.old)) (state_of self.old) }
         ensures answer { result ≡ answer_by (shift_verdict (state_of self.old) supplier minute named.now) 0 }
         ensures unchanged { Untouched result self.old self.new }
     {
-        match self.shift_refusal(supplier, minute, named) {
-            Some(refusal) => Err(refusal),
-            None => {
-                put_all(&mut self.lines, named);
-                Ok(0)
-            }
-        }
+        self.check_shift(supplier, minute, named)?;
+        put_all(&mut self.lines, named);
+        Ok(0)
     }
 
     pub fn reallocate(&mut self, c: &Reallocation) -> Result<usize, Refusal>
-        requires kept { Kept self.old }
-        requires ready { Ready (state_of self.old) }
-        requires limits { reallocation_within c.now ≡ true }
-        ensures kept { Kept self.new }
+        requires { reallocation_within c.now ≡ true }
         ensures after { state_of self.new ≡ left_by (state_of self.old) (Reallocate c.now) (with_lines (put_lines (named_lines c.now) (state_of self.old).lines) (state_of self.old)) }
         ensures answer { result ≡ later_answer (state_of self.old) (Reallocate c.now) }
         ensures unchanged { Untouched result self.old self.new }
     {
-        self.shift(c.supplier, c.minute, &c.lines[0..c.count as usize])
+        self.shift(c.supplier, c.minute, &c.lines[..c.count as usize])
     }
 }

@@ -5,7 +5,7 @@ ghost use Rattle.tariff.specs.Calendar.{following};
 ghost use Rattle.ledger.specs.Table.{is_unopened, is_closed, is_month};
 ghost use Rattle.ledger.specs.Effects.{month_begun};
 ghost use Rattle.ledger.specs.Ready.{Ready};
-ghost use Rattle.tables.specs.States.{state_of, left_by, later_answer, Kept, Untouched};
+ghost use Rattle.tables.specs.States.{state_of, left_by, later_answer, Untouched};
 
 use super::Tables;
 use calls::fields::MonthBegin;
@@ -26,8 +26,6 @@ impl<'a> Tables<'a> {
 
     /// Begins a month: no prices, no gas cost, no day settled.
     pub fn begin_month(&mut self, c: &MonthBegin)
-        requires kept { Kept self.old }
-        ensures kept { Kept self.new }
         ensures after { state_of self.new ≡ month_begun c.now (state_of self.old) }
     {
         self.stage = Stage::Between;
@@ -44,18 +42,15 @@ impl<'a> Tables<'a> {
         requires opened { is_unopened self.now.stage ≡ false }
         ensures { result ≡ is_month c.now.year c.now.month (following self.now.year self.now.month) }
     {
-        match self.calendar_month().next() {
-            Some(next) => next.year_and_number() == (c.year, c.month),
-            None => false,
-        }
+        self.calendar_month()
+            .next()
+            .is_some_and(|next| next.year_and_number() == (c.year, c.month))
     }
 
     /// After a close only the following month is due.
     pub fn begin_next_month(&mut self, c: &MonthBegin) -> Result<usize, Refusal>
-        requires kept { Kept self.old }
         requires ready { Ready (state_of self.old) }
         requires closed { is_closed self.old.stage ≡ true }
-        ensures kept { Kept self.new }
         ensures after { state_of self.new ≡ left_by (state_of self.old) (BeginMonth c.now) (month_begun c.now (state_of self.old)) }
         ensures answer { result ≡ later_answer (state_of self.old) (BeginMonth c.now) }
         ensures unchanged { Untouched result self.old self.new }

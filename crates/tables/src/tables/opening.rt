@@ -1,11 +1,12 @@
 //! An empty book.
 ghost use Rattle.std.specs.Prelude.{◌≡◌, length};
 ghost use Rattle.ledger.specs.Runs.{fresh_book};
-ghost use Rattle.tables.specs.States.{state_of, Kept};
+ghost use Rattle.tables.specs.States.{state_of};
 
 use super::Tables;
 use calls::fields::{Line, PriceQuote};
 use ledger::records::{Account, Row, Stage};
+use register::shelf::Shelf;
 use register::table::Register;
 
 impl<'a> Tables<'a> {
@@ -15,13 +16,12 @@ impl<'a> Tables<'a> {
         prices: &'a mut [PriceQuote],
         rows: &'a mut [Row],
     ) -> Self
-        ensures kept { Kept result }
         ensures state { state_of result ≡ fresh_book (length accounts.old) (length lines.old) (length prices.old) (length rows.old) }
     {
         let accounts = Register::new(accounts);
         let lines = Register::new(lines);
         let prices = Register::new(prices);
-        let rows = Register::new(rows);
+        let rows = Shelf::new(rows);
         Tables {
             stage: Stage::Unopened,
             year: 0,

@@ -6,7 +6,7 @@ ghost use Rattle.ledger.specs.State.{price_day};
 ghost use Rattle.ledger.specs.Table.{is_unopened};
 ghost use Rattle.ledger.specs.Effects.{with_gas_cost, with_prices};
 ghost use Rattle.ledger.specs.Ready.{Ready};
-ghost use Rattle.tables.specs.States.{state_of, left_by, later_answer, Kept, Untouched};
+ghost use Rattle.tables.specs.States.{state_of, left_by, later_answer, Untouched};
 
 use super::Tables;
 use calls::fields::{GasCost, PriceQuote};
@@ -14,8 +14,6 @@ use calls::refusal::Refusal;
 
 impl<'a> Tables<'a> {
     pub fn set_gas_cost(&mut self, c: &GasCost) -> Result<usize, Refusal>
-        requires kept { Kept self.old }
-        ensures kept { Kept self.new }
         ensures after { state_of self.new ≡ left_by (state_of self.old) (SetGasCost c.now) (with_gas_cost c.now.gas_cost (state_of self.old)) }
         ensures answer { result ≡ later_answer (state_of self.old) (SetGasCost c.now) }
         ensures unchanged { Untouched result self.old self.new }
@@ -28,15 +26,13 @@ impl<'a> Tables<'a> {
     }
 
     pub fn set_price(&mut self, c: &PriceQuote) -> Result<usize, Refusal>
-        requires kept { Kept self.old }
         requires ready { Ready (state_of self.old) }
         requires opened { is_unopened self.old.stage ≡ false }
-        ensures kept { Kept self.new }
         ensures after { state_of self.new ≡ left_by (state_of self.old) (SetPrice c.now) (with_prices (put price_day c.now (state_of self.old).prices) (state_of self.old)) }
         ensures answer { result ≡ later_answer (state_of self.old) (SetPrice c.now) }
         ensures unchanged { Untouched result self.old self.new }
     {
-        if self.prices.look(c.day as u64).is_some() {
+        if self.prices.look(u64::from(c.day)).is_some() {
             return Err(Refusal::PriceGiven { day: c.day });
         }
         if !self.prices.has_room(1) {
@@ -45,7 +41,7 @@ impl<'a> Tables<'a> {
         if c.day > self.calendar_month().days() {
             return Err(Refusal::NotDue);
         }
-        let _ = self.prices.set(*c);
+        self.prices.set(*c).unwrap();
         Ok(0)
     }
 }

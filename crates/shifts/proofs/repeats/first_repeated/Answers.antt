@@ -1,25 +1,24 @@
-use Rattle.std.proofs.Common.{◌≡◌, ℕ, Bool, true, false, eqb, List, get_or, take, is_some, sym, ap, ◌∙◌}
-use Rattle.std.proofs.lemmas.List.{at_drop_all}
-use Rattle.calls.specs.declared.fields.Line.{Line}
+use Rattle.std.proofs.Common.{rules, tests, ◌≡◌, get_or, take, sym, ◌∙◌}
+use Rattle.std.specs.List.{list_any}
+use Rattle.std.proofs.lemmas.Iterator.{YieldsList-from_slice}
+use Rattle.std.proofs.lemmas.Iterator.Search.{any_from_yields_List}
 use Rattle.calls.specs.Limits.{blank_line}
 use Rattle.ledger.specs.State.{line_key}
-use Rattle.ledger.specs.Table.{first_such, first_repeated}
-use Rattle.shifts.proofs.Firsts.{repeated_found, repeated_passed}
+use Rattle.shifts.proofs.Firsts.{same_key, repeated_found, repeated_passed}
 use Rattle.shifts.proofs.repeats.first_repeated.Goals as goal
 
--- what was looked for among the lines before
-looked : (xs : List Line) (i k : ℕ) (b : Bool) → k ≡ line_key (get_or xs i blank_line) → b ≡ is_some (first_such (λ l. eqb (line_key l) k) (take i xs)) → is_some (first_such (λ l. eqb (line_key l) (line_key (get_or xs i blank_line))) (take i xs)) ≡ b
-looked xs i k b e r = sym (r ∙ ap (λ m. is_some (first_such (λ l. eqb (line_key l) m) (take i xs))) e)
-
-pub returns-then-is_some : goal.returns-then-is_some
-returns-then-is_some c =
+pub returns-then-any : goal.returns-then-any
+returns-then-any c =
     let xs = c.args.named.now in
-    sym (repeated_found xs c.loop-i.i blank_line c.loop-i-test.true (looked xs c.loop-i.i c.key.result true c.key.ensures (c.if-is_some.ensures ∙ ap is_some c.first_such.ensures))) ∙ c.loop-i.invariant
+    let i = c.loop-i.i in
+    let again : c.any.result ≡ list_any (same_key (line_key (get_or xs i blank_line))) (take i xs) =
+    any_from_yields_List (same_key (line_key (get_or xs i blank_line))) _ _ c.any.result c.any.ensures.ran (YieldsList-from_slice (take i xs) cc) (λ x b q k. search (rules, tests)) in
+    sym (repeated_found xs i blank_line c.loop-i-test.true (sym again ∙ c.if-any.true)) ∙ c.loop-i.invariant
 
 pub loop-i-preserved : goal.loop-i-preserved
 loop-i-preserved c =
     let xs = c.args.named.now in
-    sym (repeated_passed xs c.loop-i.i blank_line c.loop-i-test.true (looked xs c.loop-i.i c.key.result false c.key.ensures (c.if-is_some.ensures ∙ ap is_some c.first_such.ensures))) ∙ c.loop-i.invariant
-
-pub returns : goal.returns
-returns c = sym (at_drop_all (first_repeated _) c.args.named.now c.loop-i.i c.loop-i-test.false) ∙ c.loop-i.invariant
+    let i = c.loop-i.i in
+    let again : c.any.result ≡ list_any (same_key (line_key (get_or xs i blank_line))) (take i xs) =
+    any_from_yields_List (same_key (line_key (get_or xs i blank_line))) _ _ c.any.result c.any.ensures.ran (YieldsList-from_slice (take i xs) cc) (λ x b q k. search (rules, tests)) in
+    sym (repeated_passed xs i blank_line c.loop-i-test.true (sym again ∙ c.if-any.false)) ∙ c.loop-i.invariant

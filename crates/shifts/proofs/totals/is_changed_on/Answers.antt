@@ -1,47 +1,31 @@
-use Rattle.std.proofs.Common.{◌≡◌, not, eqb, map, get_or, drop, ap, ap₂, arith, w32, Fits, rules}
-use Rattle.std.proofs.lemmas.List.{at_drop_all}
-use Rattle.std.proofs.lemmas.Bool.Decides.{nat_tests}
+use Rattle.std.proofs.Common.{not, eqb, sym, refl, ap, ap₂, ◌∙◌, rules, tests}
+use Rattle.std.specs.List.{filter}
+use Rattle.std.proofs.lemmas.Iterator.{YieldsList-from_map, YieldsList-from_slice}
+use Rattle.std.proofs.lemmas.Iterator.Consumers.{YieldsList-at, YieldsList-from_filter, sum_by_from_yields_List}
+use Rattle.calls.specs.declared.fields.Line.{Line}
 use Rattle.register.specs.Views.{held}
-use Rattle.calls.specs.Limits.{blank_line}
-use Rattle.ledger.specs.State.{standing, on_pipeline, picked}
+use Rattle.ledger.specs.State.{therms_at, picked, on_pipeline}
 use Rattle.ledger.specs.Table.{as_it_stands}
-use Rattle.shifts.proofs.Sums.{standing_more, standing_map_more}
+use Rattle.ledger.proofs.Totals.{added_map}
+use Rattle.shifts.proofs.Sums.{added_is_sum}
 use Rattle.shifts.proofs.totals.is_changed_on.Goals as goal
-
-pub loop-line-preserved : goal.loop-line-preserved
-loop-line-preserved c =
-    let xs = c.args.named.now in
-    let i = c.loop-line.line-index in
-    let ls = held c.args.lines.now in
-    let p = c.args.pipeline in
-    let inv = c.loop-line.invariant in
-    let a = standing_more xs i blank_line c.loop-line-test.true (on_pipeline p) in
-    let b = standing_map_more xs i blank_line c.loop-line-test.true (on_pipeline p) (as_it_stands ls) in
-    elim c.if-line-pipeline.branch [
-      | goal.then-line-pipeline w ↦
-          let t = w.if-line-pipeline.true in
-          let one : picked (on_pipeline p) (get_or xs i blank_line) ≡ (get_or xs i blank_line).therms = grind (arith, nat_tests) in
-          let two : picked (on_pipeline p) (as_it_stands ls (get_or xs i blank_line)) ≡ (as_it_stands ls (get_or xs i blank_line)).therms = grind (arith, nat_tests) in
-          let e = w.therms_standing.ensures in
-          let small : Fits w32 (get_or xs i blank_line).therms = search rules in
-          let low : Fits w32 w.therms_standing.result = search rules in
-          (omega (arith, w.new-is), omega (arith, w.was-is), omega (arith, w.new-is, small.fits), omega (arith, w.was-is, low.fits))
-      | goal.else-line-pipeline w ↦
-          let t = w.if-line-pipeline.false in
-          let one : picked (on_pipeline p) (get_or xs i blank_line) ≡ 0 = grind (arith, nat_tests) in
-          let two : picked (on_pipeline p) (as_it_stands ls (get_or xs i blank_line)) ≡ 0 = grind (arith, nat_tests) in
-          (omega (arith, w.new-is), omega (arith, w.was-is), omega (arith, w.new-is), omega (arith, w.was-is))
-    ]
 
 pub returns : goal.returns
 returns c =
     let xs = c.args.named.now in
-    let i = c.loop-line.line-index in
-    let ls = held c.args.lines.now in
+    let ls = held c.args.lines.now.shelf in
+    let here = λ (l : Line). eqb l.pipeline c.args.pipeline in
+    let therms = λ (l : Line). l.therms in
+    let stood = λ (l : Line). therms_at l.account l.pipeline ls in
     let test = on_pipeline c.args.pipeline in
-    let inv = c.loop-line.invariant in
-    let none : standing test (drop i xs) ≡ 0 = at_drop_all (standing test) xs i c.loop-line-test.false in
-    let none-was : standing test (map (as_it_stands ls) (drop i xs)) ≡ 0 = at_drop_all (λ ys. standing test (map (as_it_stands ls) ys)) xs i c.loop-line-test.false in
-    let new : c.loop-line.new ≡ standing test xs = omega arith in
-    let was : c.loop-line.was ≡ standing test (map (as_it_stands ls) xs) = omega arith in
-    ap not (ap₂ eqb new was)
+    let new = sum_by_from_yields_List therms (filter here xs) c.map.result c.sum-new.result c.sum-new.ensures.ran
+    (YieldsList-from_map _ therms
+    (YieldsList-at c.map.ensures.source (YieldsList-from_filter _ here (YieldsList-from_slice xs cc) c.filter.ensures.closure (λ x b q k. search (rules, tests))))
+    c.map.ensures.closure (λ x r q k. search (rules, tests))) in
+    let was = sum_by_from_yields_List stood (filter here xs) c.map-2.result c.sum-was.result c.sum-was.ensures.ran
+    (YieldsList-from_map _ stood
+    (YieldsList-at c.map-2.ensures.source (YieldsList-from_filter _ here (YieldsList-from_slice xs cc) c.filter-2.ensures.closure (λ x b q k. search (rules, tests))))
+    c.map-2.ensures.closure (λ x r q k. search (rules, tests))) in
+    ap not
+    (ap₂ eqb (new ∙ sym (added_is_sum (picked test) here therms (λ l. refl) xs))
+    (was ∙ sym (added_map (picked test) (as_it_stands ls) xs ∙ added_is_sum _ here stood (λ l. refl) xs)))

@@ -1,8 +1,8 @@
-use Rattle.std.proofs.Common.{◌≡◌, ℕ, zero, suc, ◌+◌, ◌<◌, ◌≤◌, Bool, true, cond, List, [], ◌∷◌, length, get_or, drop, sym, ap, ◌∙◌, arith}
-use Rattle.std.proofs.lemmas.List.{at_drop_more, at_drop_all}
-use Rattle.std.proofs.lemmas.Bool.{cond-true}
+use Rattle.std.proofs.Common.{◌≡◌, ℕ, zero, suc, ◌+◌, ◌<◌, ◌≤◌, true, List, [], ◌∷◌, length, get_or, drop, sym, refl, ap, ◌∙◌, subst, arith}
+use Rattle.std.specs.Result.{IsOk}
 use Rattle.std.proofs.lemmas.Bool.Decides.{nat_tests}
-use Rattle.register.specs.Keys.{put, fits}
+use Rattle.register.specs.Keys.{fits}
+use Rattle.register.specs.Places.{taken_if}
 use Rattle.register.specs.Views.{held, room}
 use Rattle.calls.specs.declared.fields.Line.{Line}
 use Rattle.calls.specs.Limits.{blank_line}
@@ -26,34 +26,12 @@ has_place xs lines start i space d inv enough lt =
     let left = length_puts (drop i xs) lines (distinct_drop i xs d) in
     let whole = length_puts xs start d in
     let same = ap length inv in
-    let next = absent_more xs i blank_line lt lines in
+    let next = absent_more lines xs i blank_line lt in
     grind (arith, nat_tests)
 
--- the next line put where it fits, what is left comes to the same
-next_put : (xs lines new whole : List Line) (i space : ℕ) (r : Bool) → i < length xs → new ≡ cond r (put line_key (get_or xs i blank_line) lines) lines
-    → r ≡ fits line_key space lines (get_or xs i blank_line) → fits line_key space lines (get_or xs i blank_line) ≡ true
-    → put_lines (drop i xs) lines ≡ whole → put_lines (drop (i + 1) xs) new ≡ whole
-next_put xs lines new whole i space r lt after answer placed inv =
-    ap (put_lines (drop (i + 1) xs)) (after ∙ cond-true _ _ _ (answer ∙ placed)) ∙ sym (at_drop_more (λ ys. put_lines ys lines) xs i blank_line lt) ∙ inv
-
-pub loop-i-preserved : goal.loop-i-preserved
-loop-i-preserved c =
+pub unwrap-requires : goal.unwrap-requires
+unwrap-requires c =
     let xs = c.args.named.now in
-    let start = held c.args.lines.now in
-    let lines = held c.loop-i.lines in
-    let space = room c.loop-i.lines in
-    let inv = c.loop-i.invariant in
-    let lt = c.loop-i-test.true in
-    let placed = has_place xs lines start c.loop-i.i space (distinct [] xs c.requires.unrepeated) inv.0 (omega (arith, inv.3, c.requires.space)) lt in
-    let left = next_put xs lines (held c.set.new.self) (put_lines xs start) c.loop-i.i space c.set.result lt c.set.ensures.after c.set.ensures.answer placed inv.0 in
-    (left, c.set.ensures.within, c.set.ensures.rises, c.set.ensures.sized ∙ inv.3)
-
-pub returns : goal.returns
-returns c =
-    let inv = c.loop-i.invariant in
-    record {
-      after = sym (at_drop_all (λ ys. put_lines ys (held c.loop-i.lines)) c.args.named.now c.loop-i.i c.loop-i-test.false) ∙ inv.0;
-      sized = inv.3;
-      within = inv.1;
-      rises = inv.2;
-    }
+    let inv = c.loop-line.invariant in
+    let placed = has_place xs (held c.loop-line.lines.shelf) (held c.args.lines.now.shelf) c.loop-line.line-index (room c.loop-line.lines.shelf) (distinct [] xs c.requires.unrepeated) inv.0 (omega (arith, inv.1, c.requires.space)) c.loop-line-test.true in
+    subst IsOk (sym (c.set.ensures.answer ∙ ap taken_if placed)) refl

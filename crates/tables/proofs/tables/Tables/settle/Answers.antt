@@ -10,22 +10,22 @@ use Rattle.tables.proofs.tables.Tables.settle.Goals as goal
 
 pub settle_by-requires : goal.settle_by-requires
 settle_by-requires g c =
-    let read = all_read (held c.args.self.now.accounts) (ap unread (sym c.all.ensures) ∙ sym c.first_unread.ensures ∙ c.in_default-first_unread.is) in
+    let read = all_read (held c.args.self.now.accounts.shelf) (ap unread (sym c.all.ensures) ∙ sym c.first_unread.ensures ∙ c.in_default.is) in
     search rules
 
 pub settle_by-requires-in-Critical : goal.settle_by-requires-in-Critical
 settle_by-requires-in-Critical g c =
-    let read = all_read (held c.args.self.now.accounts) (ap unread (sym c.all.ensures) ∙ sym c.first_unread.ensures ∙ c.in_default-first_unread.is) in
+    let read = all_read (held c.args.self.now.accounts.shelf) (ap unread (sym c.all.ensures) ∙ sym c.first_unread.ensures ∙ c.in_default.is) in
     search rules
 
 pub returns-in-Ordinary-clause-after : goal.returns-in-Ordinary-clause-after
 returns-in-Ordinary-clause-after g c =
-    let by = by_kind (both (g.O.DayRule.answers c.args.ordinary.now) (g.C.DayRule.answers c.args.critical.now)) Ordinary (state_of c.args.self.now) (c.requires.ended ∙ ap Ended c.in-Ordinary.is) in
-    let mine = c.settle_by.ensures.after ∙ sym by in
+    let by = by_kind (both (g.O.DayRule.answers c.args.rules.now.ordinary.now) (g.C.DayRule.answers c.args.rules.now.critical.now)) Ordinary (state_of c.args.self.now) (c.requires.ended ∙ ap Ended c.in-Ordinary.is) in
+    let mine = c.settle_by.ensures ∙ sym by in
     search rules
 
 pub returns-in-Critical-clause-after : goal.returns-in-Critical-clause-after
 returns-in-Critical-clause-after g c =
-    let by = by_kind (both (g.O.DayRule.answers c.args.ordinary.now) (g.C.DayRule.answers c.args.critical.now)) Critical (state_of c.args.self.now) (c.requires.ended ∙ ap Ended c.in-Critical.is) in
-    let mine = c.settle_by-in-Critical.ensures.after ∙ sym by in
+    let by = by_kind (both (g.O.DayRule.answers c.args.rules.now.ordinary.now) (g.C.DayRule.answers c.args.rules.now.critical.now)) Critical (state_of c.args.self.now) (c.requires.ended ∙ ap Ended c.in-Critical.is) in
+    let mine = c.settle_by-in-Critical.ensures ∙ sym by in
     search rules

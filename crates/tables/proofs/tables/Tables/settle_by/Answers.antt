@@ -4,13 +4,10 @@ use Rattle.register.specs.Keys.{rising}
 use Rattle.calls.specs.declared.fields.Line.{Line}
 use Rattle.calls.specs.Limits.{line_within}
 use Rattle.ledger.specs.declared.records.Account.{Account}
-use Rattle.ledger.specs.declared.records.DayTerms.{DayTerms}
 use Rattle.ledger.specs.declared.records.Row.{Row}
 use Rattle.ledger.specs.State.{line_key, standing, of_account}
-use Rattle.ledger.specs.Terms.{account_after_day, row_after_day}
-use Rattle.settling.specs.Terms.{terms_within}
+use Rattle.ledger.specs.Terms.{DayTerms, account_after_day, row_after_day}
 use Rattle.tables.specs.States.{state_of}
-use Rattle.tables.proofs.Terms.{day_terms_within}
 use Rattle.tables.proofs.tables.Tables.settle_by.Goals as goal
 
 pub settle_all-requires : goal.settle_all-requires
@@ -19,16 +16,12 @@ settle_all-requires g c =
     let ready = c.requires.ready in
     let same = c.all-lines.ensures in
     record {
-      terms = ap terms_within c.requires.terms ∙ day_terms_within s ready c.requires.begun;
       accounts_within = ready.accounts_within;
       read = c.requires.read;
       deliverable = ap (λ ls. each (λ a. leb (standing (of_account a.number) ls) 8000000) s.accounts) same ∙ ready.accounts_deliverable;
-      accounts_rise = ready.accounts_rise;
       lines_rise = ap (rising line_key) same ∙ ready.lines_rise;
       lines_within = ap (each line_within) same ∙ ready.lines_within;
       space = c.requires.space;
-      accounts_held = c.requires.kept.accounts;
-      rows_held = c.requires.kept.rows;
     }
 
 pub returns : goal.returns
@@ -37,6 +30,6 @@ returns g c =
     let rule = g.R.DayRule.answers c.args.rule.now in
     let renewed : DayTerms → List Line → List Account = λ t ls. map (λ a. account_after_day rule t (standing (of_account a.number) ls) a) s.accounts in
     let written : DayTerms → List Line → List Row = λ t ls. s.rows ++ map (λ a. row_after_day rule t (standing (of_account a.number) ls) a) s.accounts in
-    let accounts = c.settle_all.ensures.accounts ∙ ap₂ renewed c.requires.terms c.all-lines.ensures in
-    let rows = c.settle_all.ensures.rows ∙ ap₂ written c.requires.terms c.all-lines.ensures in
-    record { kept = search rules; after = search rules }
+    let accounts = c.settle_all.ensures.accounts ∙ ap₂ renewed c.requires.day c.all-lines.ensures in
+    let rows = c.settle_all.ensures.rows ∙ ap₂ written c.requires.day c.all-lines.ensures in
+    search rules
