@@ -1,5 +1,4 @@
 //! The book over lent memory.
-ghost use Rattle.register.specs.Views.{Within};
 ghost use Rattle.ledger.specs.Ready.{Led};
 ghost use Rattle.tables.specs.States.{state_of};
 
@@ -13,9 +12,5 @@ pub(crate) mod readers;
 #[derive(Drop)]
 pub struct Book<'a> {
     tables: Tables<'a>,
-    ghost accounts_within: { Within tables.accounts },
-    ghost lines_within: { Within tables.lines },
-    ghost prices_within: { Within tables.prices },
-    ghost rows_within: { Within tables.rows },
     ghost led: { Led (state_of tables) },
 }

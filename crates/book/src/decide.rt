@@ -2,12 +2,13 @@
 ghost use Rattle.std.specs.Prelude.{◌≡◌};
 ghost use Rattle.ledger.specs.Runs.{after, answered};
 ghost use Rattle.ledger.specs.Ready.{Ready};
-ghost use Rattle.tables.specs.States.{state_of, both, Kept, Untouched};
+ghost use Rattle.tables.specs.States.{state_of, both, Untouched};
 
 use calls::fields::Call;
 use calls::limits::Limited;
 use calls::refusal::Refusal;
 use ledger::records::Stage;
+use tables::rules::DayRules;
 use tables::tables::Tables;
 use tariff::day_rule::DayRule;
 
@@ -15,13 +16,10 @@ use tariff::day_rule::DayRule;
 pub(crate) fn decide<O: DayRule, C: DayRule>(
     tables: &mut Tables,
     call: &Call,
-    ordinary: &O,
-    critical: &C,
+    rules: &DayRules<O, C>,
 ) -> Result<usize, Refusal>
-    requires kept { Kept tables.old }
-    requires ready { Ready (state_of tables.old) }
-    ensures kept { Kept tables.new }
-    ensures after { state_of tables.new ≡ after (both (O.DayRule.answers ordinary.now) (C.DayRule.answers critical.now)) (state_of tables.old) call.now }
+    requires { Ready (state_of tables.old) }
+    ensures after { state_of tables.new ≡ after (both (O.DayRule.answers rules.now.ordinary.now) (C.DayRule.answers rules.now.critical.now)) (state_of tables.old) call.now }
     ensures answer { result ≡ answered (state_of tables.old) call.now }
     ensures unchanged { Untouched result tables.old tables.new }
 {
@@ -50,7 +48,7 @@ pub(crate) fn decide<O: DayRule, C: DayRule>(
         }
         (Stage::Ended(_), Call::Read(c)) => tables.take_reading(c),
         (Stage::Ended(_), Call::Reallocate(c)) => tables.reallocate(c),
-        (Stage::Ended(kind), Call::Settle(_)) => tables.settle(kind, ordinary, critical),
+        (Stage::Ended(kind), Call::Settle(_)) => tables.settle(kind, rules),
         (Stage::Between, Call::Close(_)) => tables.close(),
         _ => Err(Refusal::WrongStage),
     }

@@ -5,7 +5,7 @@ use Rattle.ledger.specs.State.{number, known, account_at}
 use Rattle.ledger.proofs.Found.{at_key}
 use Rattle.tables.specs.States.{known_account}
 
-told : (n : ℕ) (o : Option Account) (a : Account) → known_account n o ≡ Ok a → o ≡ Some a
+pub told : (n : ℕ) (o : Option Account) (a : Account) → known_account n o ≡ Ok a → o ≡ Some a
 told n None a e = absurd (cc)
 told n (Some b) a e = cc
 

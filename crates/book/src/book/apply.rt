@@ -12,6 +12,7 @@ use crate::decide::decide;
 use calls::fields::{Call, Line, PriceQuote};
 use calls::refusal::Refusal;
 use ledger::records::{Account, Row};
+use tables::rules::DayRules;
 use tables::tables::Tables;
 use tariff::day_rule::DayRule;
 
@@ -45,6 +46,7 @@ impl<'a> Book<'a> {
         ensures law { LawGoesOn (state_of self.old) call.now (both (O.DayRule.answers ordinary.now) (C.DayRule.answers critical.now)) result (state_of self.new) }
         ensures led { Led (state_of self.new) }
     {
-        decide(&mut self.tables, call, ordinary, critical)
+        let rules = DayRules { ordinary, critical };
+        decide(&mut self.tables, call, &rules)
     }
 }

@@ -4,6 +4,7 @@ ghost use Rattle.book.specs.Quantity.{QuantityAnswers};
 
 use super::Book;
 use crate::request::DeliveryRequest;
+use calls::limits::Limited;
 use calls::refusal::Refusal;
 use ledger::records::Stage;
 
@@ -13,17 +14,13 @@ impl<'a> Book<'a> {
     pub fn quantity(&self, request: &DeliveryRequest) -> Result<u32, Refusal>
         ensures { QuantityAnswers (state_of self.now) request.now result }
     {
-        if !request.is_within_limits() {
+        if !request.within_limits() {
             return Err(Refusal::OutsideLimits);
         }
-        if let Stage::Unopened = self.tables.stage {
+        if self.tables.stage == Stage::Unopened {
             return Err(Refusal::WrongStage);
         }
-        match self.tables.accounts.look(request.account as u64) {
-            Some(account) => Ok(request.filling_delivery(self.tables.loss, &account)),
-            None => Err(Refusal::NoAccount {
-                account: request.account,
-            }),
-        }
+        let account = self.tables.account(request.account)?;
+        Ok(request.filling_delivery(self.tables.loss, &account))
     }
 }

@@ -4,22 +4,23 @@ ghost use Rattle.ledger.specs.Safety.{account_within};
 ghost use Rattle.book.specs.Quantity.{request_within, Serves};
 
 use super::DeliveryRequest;
-use calls::limits::MAX_ACCOUNT;
+use calls::limits::{Limited, MAX_ACCOUNT};
 use ledger::records::Account;
 use tariff::posting::MAX_POSTING;
 use tariff::question::MAX_DAY_THERMS;
 
-impl DeliveryRequest {
-    pub(crate) fn is_within_limits(&self) -> bool
-        ensures { result ≡ request_within self.now }
-    {
-        self.account >= 1
-            && self.account <= MAX_ACCOUNT
+impl Limited for DeliveryRequest {
+    ghost limits = { request_within };
+
+    fn within_limits(&self) -> bool {
+        (1..=MAX_ACCOUNT).contains(&self.account)
             && self.used <= MAX_DAY_THERMS
             && self.max_injection <= MAX_POSTING
             && self.max_withdrawal <= MAX_POSTING
     }
+}
 
+impl DeliveryRequest {
     /// The delivery that, after loss, covers the use and what storage can take.
     pub(crate) fn filling_delivery(&self, loss: u16, account: &Account) -> u32
         requires request { request_within self.now ≡ true }

@@ -16,7 +16,7 @@ impl<'a> Tables<'a> {
         prices: &'a mut [PriceQuote],
         rows: &'a mut [Row],
     ) -> Self
-        ensures state { state_of result ≡ fresh_book (length accounts.old) (length lines.old) (length prices.old) (length rows.old) }
+        ensures { state_of result ≡ fresh_book (length accounts.old) (length lines.old) (length prices.old) (length rows.old) }
     {
         let accounts = Register::new(accounts);
         let lines = Register::new(lines);

@@ -4,11 +4,11 @@ use Rattle.ledger.specs.Ready.{Led}
 use Rattle.ledger.proofs.Led.{leads_on, led_on, upheld}
 use Rattle.ledger.proofs.Refusing.{by_the_table}
 use Rattle.tables.specs.States.{state_of, both}
-use Rattle.book.proofs.Standing.{book_kept, book_ready}
+use Rattle.book.proofs.Standing.{book_ready}
 use Rattle.book.proofs.book.Book.apply.Goals as goal
 
 pub decide-requires : goal.decide-requires
-decide-requires g c = record { kept = book_kept c.args.self.now; ready = book_ready c.args.self.now }
+decide-requires g c = book_ready c.args.self.now
 
 -- both rules keep their law, so the book's history goes on
 pub invariant_of-self : goal.invariant_of-self
@@ -17,8 +17,7 @@ invariant_of-self g c =
     let o = c.args.ordinary.now in
     let r = c.args.critical.now in
     let led = led_on (both (g.O.DayRule.answers o) (g.C.DayRule.answers r)) (g.met.O.DayRule.keeps o) (g.met.C.DayRule.keeps r) s c.args.call.now c.args.self.now.led in
-    let kept = c.decide.ensures.kept in
-    record { accounts_within = kept.accounts; lines_within = kept.lines; prices_within = kept.prices; rows_within = kept.rows; led = subst Led (sym c.decide.ensures.after) led }
+    record { led = subst Led (sym c.decide.ensures.after) led }
 
 pub returns : goal.returns
 returns g c =
