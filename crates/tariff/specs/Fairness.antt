@@ -28,13 +28,4 @@ limits f h = record {
 }
 
 pub fair_from : (f : Figures) → Limits f → fair f ≡ true
-fair_from f l =
-    let a = l.day_low in
-    let b = l.day_high in
-    let c = l.delivered_high in
-    let d = l.used_high in
-    let e = l.capacity_high in
-    let s = l.storage_high in
-    let i = l.injection_high in
-    let w = l.withdrawal_high in
-    grind (arith, nat_tests)
+fair_from f l = grind (arith, nat_tests)

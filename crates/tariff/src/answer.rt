@@ -2,7 +2,7 @@
 use crate::tiers::Tiers;
 
 /// Where a day's therms go and come from, besides delivery and use.
-#[derive(Clone, Copy)]
+#[derive(Clone, Copy, PartialEq, Eq, Debug)]
 pub struct Answer {
     pub injected: u32,
     pub withdrawn: u32,

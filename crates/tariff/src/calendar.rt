@@ -17,7 +17,7 @@ pub struct Date {
 }
 
 /// A month of the calendar.
-#[derive(Clone, Copy)]
+#[derive(Clone, Copy, PartialEq, Eq, PartialOrd, Ord, Debug)]
 pub struct Month {
     pub(crate) year: u16,
     pub(crate) number: u8,
@@ -32,7 +32,7 @@ impl Month {
     pub fn new(year: u16, number: u8) -> Option<Month>
         ensures { option_map {U = ℕ × ℕ} (λ m. (m.year, m.number)) result ≡ when (in_calendar year number) (year, number) }
     {
-        if year >= FIRST_YEAR && year <= LAST_YEAR && number >= 1 && number <= 12 {
+        if (FIRST_YEAR..=LAST_YEAR).contains(&year) && (1..=12).contains(&number) {
             Some(Month { year, number })
         } else {
             None
@@ -68,34 +68,18 @@ impl Month {
     pub fn next(&self) -> Option<Month>
         ensures { option_map {U = ℕ × ℕ} (λ m. (m.year, m.number)) result ≡ following self.now.year self.now.number }
     {
-        if self.number < 12 {
-            Some(Month {
-                year: self.year,
-                number: self.number + 1,
-            })
-        } else if self.year < LAST_YEAR {
-            Some(Month {
-                year: self.year + 1,
-                number: 1,
-            })
-        } else {
-            None
-        }
+        Month::new(self.year, self.number + 1).or_else(|| Month::new(self.year + 1, 1))
     }
 
     /// The date of a day number; none past the month's end.
     pub fn date(&self, day: u8) -> Option<Date>
         ensures { result ≡ date_in self.now.year self.now.number day }
     {
-        if day >= 1 && day <= self.days() {
-            Some(Date {
-                year: self.year,
-                month: self.number,
-                day,
-            })
-        } else {
-            None
-        }
+        (1..=self.days()).contains(&day).then_some(Date {
+            year: self.year,
+            month: self.number,
+            day,
+        })
     }
 
     /// The date of the month's last day.

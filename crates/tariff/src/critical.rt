@@ -4,6 +4,7 @@ ghost use Rattle.std.proofs.Common.{rules};
 
 use crate::answer::Answer;
 use crate::day_rule::DayRule;
+use crate::published::part_of;
 use crate::question::Question;
 use crate::tiers::Tiers;
 
@@ -17,20 +18,17 @@ impl DayRule for Critical {
 
     fn answer(&self, question: &Question) -> Answer {
         let f = question.figures();
-        let surplus = f.delivered.saturating_sub(f.used);
-        let shortage = f.used.saturating_sub(f.delivered);
-        let free = f.capacity.saturating_sub(f.storage);
-        let right = (17 * f.capacity as u64 / 1_000) as u32;
-        let injected = surplus.min(free);
-        let withdrawn = shortage.min(f.storage).min(right);
-        let authorized = (shortage - withdrawn).min(right - withdrawn);
+        let right = part_of::<1_000>(f.capacity, 17);
+        let injected = f.surplus().min(f.free());
+        let withdrawn = f.shortage().min(f.storage).min(right);
+        let authorized = (f.shortage() - withdrawn).min(right - withdrawn);
         Answer {
             injected,
             withdrawn,
             bought: Tiers::first_only(0),
-            sold: Tiers::first_only(surplus - injected),
+            sold: Tiers::first_only(f.surplus() - injected),
             authorized,
-            unauthorized: shortage - withdrawn - authorized,
+            unauthorized: f.shortage() - withdrawn - authorized,
         }
     }
 }

@@ -6,7 +6,7 @@ ghost use Rattle.tariff.specs.Options.{when};
 use crate::question::MAX_CAPACITY;
 
 /// Therms in storage, and the most that storage may hold.
-#[derive(Clone, Copy)]
+#[derive(Clone, Copy, PartialEq, Eq, Debug)]
 pub struct Inventory {
     pub(crate) storage: u32,
     pub(crate) capacity: u32,

@@ -4,12 +4,12 @@ ghost use Rattle.std.specs.Option.{option_map};
 ghost use Rattle.tariff.specs.Options.{when};
 ghost use Rattle.tariff.specs.Loss.{most_loss, after_loss};
 
-use crate::published::share_of;
+use crate::published::{HUNDREDTHS, part_of};
 
 pub const MAX_LOSS: u16 = 2_000;
 
 /// A month's loss, at most 20 percent.
-#[derive(Clone, Copy)]
+#[derive(Clone, Copy, PartialEq, Eq, Debug)]
 pub struct Loss {
     hundredths: u16,
     ghost high: { hundredths ≤ 2000 },
@@ -32,6 +32,6 @@ impl Loss {
         ensures value { result ≡ after_loss self.now.hundredths therms }
         ensures high { result ≤ therms }
     {
-        share_of(therms, 10_000 - self.hundredths)
+        part_of::<HUNDREDTHS>(therms, HUNDREDTHS - self.hundredths)
     }
 }

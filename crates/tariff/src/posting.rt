@@ -1,17 +1,18 @@
 //! The posting layer: over any day rule, and a day rule itself.
 ghost use Rattle.std.specs.Prelude.{◌≡◌, ◌-◌, ◌≤◌, true, cond, slice_set};
+ghost use Rattle.std.proofs.Common.{rules};
 ghost use Rattle.tariff.specs.Each.{each};
 ghost use Rattle.tariff.specs.Figures.{with_maxima};
-ghost use Rattle.tariff.specs.Postings.{posting, no_postings, in_capacity, postable, post_on, posting_on, as_posted, under};
+ghost use Rattle.tariff.specs.Postings.{no_postings, in_capacity, postable, post_on, posting_on, as_posted};
 ghost use Rattle.tariff.specs.Posted.{posting_high, under_fair, keeps_under};
 
 use crate::answer::Answer;
 use crate::day_rule::DayRule;
-use crate::published::share_of;
-use crate::question::{LAST_DAY, Question};
+use crate::published::{HUNDREDTHS, part_of};
+use crate::question::{Figures, LAST_DAY, Question};
 
 /// Most that can be posted, in hundredths of a percent: all of capacity.
-pub const MAX_POSTING: u16 = 10_000;
+pub const MAX_POSTING: u16 = HUNDREDTHS;
 
 /// A day's posted maxima in hundredths of a percent of capacity.
 #[derive(Clone, Copy)]
@@ -60,9 +61,11 @@ impl Question {
         requires { (max_injection ≤ self.now.figures.capacity) × (max_withdrawal ≤ self.now.figures.capacity) }
         ensures { result.figures ≡ with_maxima max_injection max_withdrawal self.now.figures }
     {
-        let mut figures = self.figures;
-        figures.max_injection = max_injection;
-        figures.max_withdrawal = max_withdrawal;
+        let figures = Figures {
+            max_injection,
+            max_withdrawal,
+            ..self.figures
+        };
         Question { figures }
     }
 }
@@ -88,6 +91,7 @@ impl<R> PostingLayer<R> {
     }
 
     /// Posts a day's maxima, in place of what was posted for it before; outside the limits it posts nothing.
+    #[tactic(auto, using(crate::specs::EachLemmas::each_set))]
     pub fn post(
         &mut self,
         day: u8,
@@ -124,18 +128,15 @@ impl<R> PostingLayer<R> {
 impl<R: DayRule> DayRule for PostingLayer<R> {
     ghost answers = { λ l f. R.DayRule.answers l.rule (as_posted l.postings.table f) };
 
-    ghost keeps = { λ s f h.
-        let p = posting_on f.day s.postings.table in
-        let high = posting_high f.day s.postings.table s.limits in
-        keeps_under p f _ (R.DayRule.keeps s.rule (under p f) (under_fair p f high h)) };
+    ghost keeps = { Prim.search (rules, R.DayRule.keeps, posting_high, under_fair, keeps_under) };
 
     fn answer(&self, question: &Question) -> Answer {
         let f = question.figures();
         let Some(posting) = self.postings.on(f.day) else {
             return self.rule.answer(question);
         };
-        let max_injection = share_of(f.capacity, posting.max_injection);
-        let max_withdrawal = share_of(f.capacity, posting.max_withdrawal);
+        let max_injection = part_of::<HUNDREDTHS>(f.capacity, posting.max_injection);
+        let max_withdrawal = part_of::<HUNDREDTHS>(f.capacity, posting.max_withdrawal);
         let posted = question.with_maxima(max_injection, max_withdrawal);
         self.rule.answer(&posted)
     }

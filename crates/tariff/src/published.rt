@@ -1,9 +1,15 @@
 //! The published daily maxima and month-end bands.
-ghost use Rattle.std.specs.Prelude.{◌≡◌, ◌≤◌, true};
+ghost use Rattle.std.specs.Prelude.{◌≡◌, ◌-◌, ◌*◌, ◌/◌, ◌<◌, ◌≤◌, true};
 ghost use Rattle.tariff.specs.Each.{each};
-ghost use Rattle.tariff.specs.Published.{daily_maxima, month_end_bands, maxima_bounded, band_bounded, maxima_in, band_in, maxima_of, band_of, share, percent};
+ghost use Rattle.tariff.specs.Published.{daily_maxima, month_end_bands, maxima_bounded, band_bounded, maxima_of, band_of};
 
 use crate::calendar::Month;
+
+/// A whole in hundredths of a percent.
+pub(crate) const HUNDREDTHS: u16 = 10_000;
+
+/// A whole in percent.
+pub(crate) const PERCENT: u16 = 100;
 
 /// A month's published daily maxima, in hundredths of a percent of capacity.
 #[derive(Clone, Copy)]
@@ -15,19 +21,19 @@ pub(crate) struct MonthMaxima {
 /// A month's published band of storage at its end, in percent of capacity.
 #[derive(Clone, Copy)]
 pub(crate) struct MonthBand {
-    lowest: u8,
-    highest: u8,
+    lowest: u16,
+    highest: u16,
 }
 
 /// Most therms that storage may take and give in a day.
-#[derive(Clone, Copy)]
+#[derive(Clone, Copy, PartialEq, Eq, Debug)]
 pub struct Maxima {
     pub injection: u32,
     pub withdrawal: u32,
 }
 
 /// Least and most therms in storage at a month's end.
-#[derive(Clone, Copy)]
+#[derive(Clone, Copy, PartialEq, Eq, Debug)]
 pub struct Band {
     pub lowest: u32,
     pub highest: u32,
@@ -135,22 +141,14 @@ const MONTH_END_BANDS: [MonthBand; 12] = [
     },
 ];
 
-/// Hundredths of a percent of a number of therms, rounded down.
-pub(crate) fn share_of(therms: u32, hundredths: u16) -> u32
-    requires { hundredths ≤ 10000 }
-    ensures value { result ≡ share therms hundredths }
+/// So many parts of a whole, of a number of therms, rounded down.
+pub(crate) fn part_of<const WHOLE: u16>(therms: u32, parts: u16) -> u32
+    requires whole { 0 < WHOLE }
+    requires part { parts ≤ WHOLE }
+    ensures value { result ≡ therms * parts / WHOLE }
     ensures high { result ≤ therms }
 {
-    (therms as u64 * hundredths as u64 / 10_000) as u32
-}
-
-/// A percentage of capacity, in therms, rounded down.
-pub(crate) fn percent_of(capacity: u32, points: u8) -> u32
-    requires { points ≤ 100 }
-    ensures value { result ≡ percent capacity points }
-    ensures high { result ≤ capacity }
-{
-    (capacity as u64 * points as u64 / 100) as u32
+    (u64::from(therms) * u64::from(parts) / u64::from(WHOLE)) as u32
 }
 
 fn daily_maxima() -> &'static [MonthMaxima; 12]
@@ -168,16 +166,12 @@ fn month_end_bands() -> &'static [MonthBand; 12]
 }
 
 impl Month {
-    fn maxima_row(&self) -> MonthMaxima
-        ensures { result ≡ maxima_in self.now.number }
+    /// The month's place in a table of twelve rows.
+    fn place(&self) -> usize
+        ensures value { result ≡ self.now.number - 1 }
+        ensures high { result < 12 }
     {
-        daily_maxima()[self.number as usize - 1]
-    }
-
-    fn band_row(&self) -> MonthBand
-        ensures { result ≡ band_in self.now.number }
-    {
-        month_end_bands()[self.number as usize - 1]
+        usize::from(self.number) - 1
     }
 
     /// The month's published maxima of a day, for an account of that capacity.
@@ -185,10 +179,10 @@ impl Month {
         ensures value { result ≡ maxima_of self.now.number capacity }
         ensures within { (result.injection ≤ capacity) × (result.withdrawal ≤ capacity) }
     {
-        let row = self.maxima_row();
+        let row = daily_maxima()[self.place()];
         Maxima {
-            injection: share_of(capacity, row.injection),
-            withdrawal: share_of(capacity, row.withdrawal),
+            injection: part_of::<HUNDREDTHS>(capacity, row.injection),
+            withdrawal: part_of::<HUNDREDTHS>(capacity, row.withdrawal),
         }
     }
 
@@ -197,10 +191,10 @@ impl Month {
         ensures value { result ≡ band_of self.now.number capacity }
         ensures within { (result.lowest ≤ result.highest) × (result.highest ≤ capacity) }
     {
-        let row = self.band_row();
+        let row = month_end_bands()[self.place()];
         Band {
-            lowest: percent_of(capacity, row.lowest),
-            highest: percent_of(capacity, row.highest),
+            lowest: part_of::<PERCENT>(capacity, row.lowest),
+            highest: part_of::<PERCENT>(capacity, row.highest),
         }
     }
 }
