@@ -1,6 +1,5 @@
-pub mod ReadLines
-pub mod Checked
-pub mod Parts
-pub mod Alone
-pub mod Divisions
 pub mod CutSteps
+pub mod Divisions
+pub mod Parts
+pub mod ReadLines
+pub mod Alone

@@ -7,3 +7,4 @@ pub mod Cuts
 pub mod Spread
 pub mod Reallocations
 pub mod LineBytes
+pub mod Walks

@@ -14,7 +14,7 @@ pub enum FeedRefusal {
 }
 
 /// The layer that refused, with its own cause.
-#[derive(Clone, Copy)]
+#[derive(Clone, Copy, PartialEq, Eq, Debug)]
 pub enum Layer {
     Feed(FeedRefusal),
     Posting(PostingRefusal),
@@ -22,7 +22,7 @@ pub enum Layer {
 }
 
 /// A refused record: its ordinal counts from 1, its offset from 0.
-#[derive(Clone, Copy)]
+#[derive(Clone, Copy, PartialEq, Eq, Debug)]
 pub struct Fault {
     pub ordinal: usize,
     pub offset: usize,

@@ -12,10 +12,10 @@ ghost use Rattle.feed.specs.Spread.{spread_at, two_num2, four_num4};
 ghost use Rattle.std.proofs.Common.{rules};
 ghost use Rattle.feed.specs.Reallocations;
 
-use crate::lines::read_lines;
+use crate::lines::{read_line, read_lines};
 use crate::numbers::{be16, be32};
 use calls::fields::{
-    AccountMove, AccountOpening, Call, DayBegin, DayEnd, DaySettle, GasCost, Line, MAX_SHIFTS,
+    AccountMove, AccountOpening, Call, DayBegin, DayEnd, DaySettle, GasCost, MAX_SHIFTS,
     MeterReading, MonthBegin, MonthClosing, Nomination, PostedMaxima, PriceQuote, Reallocation,
 };
 use calls::limits::Limited;
@@ -24,14 +24,15 @@ use calls::limits::Limited;
 pub(crate) trait Kind {
     type Fields;
 
+    // The two bytes that begin a record.
+    ghost MARK: { List ℕ };
+
     const MARK: [u8; 2];
 
+    // How many bytes its head has behind them.
+    ghost HEAD: { ℕ };
+
     const HEAD: usize;
-
-    // The two bytes that begin a record, and how many bytes its head has behind them.
-    ghost marks: { List ℕ };
-
-    ghost heads: { ℕ };
 
     // How many bytes follow a head.
     ghost tails: { List ℕ → ℕ };
@@ -46,33 +47,27 @@ pub(crate) trait Kind {
     // The bytes behind a mark that say fields.
     ghost spelt: { Self.Fields → List ℕ };
 
-    fn mark_bytes() -> [u8; 2]
-        ensures { result ≡ marks };
-
-    fn head_len() -> usize
-        ensures value { result ≡ heads }
-        ensures bound { result < 256 };
-
+    // A body of the trait's own is proved for any `tails`, so it cannot be the 0 of the kinds with none.
     fn tail_len(head: &[u8]) -> usize
-        requires { length head.now ≡ heads }
+        requires { length head.now ≡ HEAD }
         ensures value { result ≡ tails head.now }
         ensures bound { result < 65536 };
 
     fn read(body: &[u8]) -> Option<Self::Fields>
-        requires { length body.now ≡ heads + tails (take heads body.now) }
+        requires { length body.now ≡ HEAD + tails (take HEAD body.now) }
         ensures { result ≡ when (within (decode body.now)) (decode body.now) };
 
     fn call(fields: Self::Fields) -> Call
         ensures { result ≡ calls fields };
 
     // Bytes that say fields are as long as their head tells.
-    ghost sized: { (f : Self.Fields) → within f ≡ true → length (spelt f) ≡ heads + tails (take heads (spelt f)) };
+    ghost sized: { (f : Self.Fields) → within f ≡ true → length (spelt f) ≡ HEAD + tails (take HEAD (spelt f)) };
 
     // Fields are what their bytes say.
     ghost reads: { (f : Self.Fields) → within f ≡ true → decode (spelt f) ≡ f };
 
     // Bytes are those of what they say.
-    ghost writes: { (bs : List ℕ) → Bytes bs → length bs ≡ heads + tails (take heads bs) → within (decode bs) ≡ true → spelt (decode bs) ≡ bs };
+    ghost writes: { (bs : List ℕ) → Bytes bs → length bs ≡ HEAD + tails (take HEAD bs) → within (decode bs) ≡ true → spelt (decode bs) ≡ bs };
 }
 
 /// Month begin.
@@ -81,13 +76,13 @@ pub(crate) struct Mb;
 impl Kind for Mb {
     type Fields = MonthBegin;
 
+    ghost MARK = { mark_mb };
+
     const MARK: [u8; 2] = [b'M', b'B'];
 
+    ghost HEAD = { 5 };
+
     const HEAD: usize = 5;
-
-    ghost marks = { mark_mb };
-
-    ghost heads = { 5 };
 
     ghost tails = { no_tail };
 
@@ -109,29 +104,17 @@ impl Kind for Mb {
         let s = spread_at 5 bs size in
         cc };
 
-    fn mark_bytes() -> [u8; 2] {
-        Self::MARK
-    }
-
-    fn head_len() -> usize {
-        Self::HEAD
-    }
-
     fn tail_len(head: &[u8]) -> usize {
         0
     }
 
     fn read(body: &[u8]) -> Option<MonthBegin> {
-        let fields = MonthBegin {
+        MonthBegin {
             year: be16(body, 0),
             month: body[2],
             loss: be16(body, 3),
-        };
-        if fields.within_limits() {
-            Some(fields)
-        } else {
-            None
         }
+        .checked()
     }
 
     fn call(fields: MonthBegin) -> Call {
@@ -145,13 +128,13 @@ pub(crate) struct Ac;
 impl Kind for Ac {
     type Fields = AccountOpening;
 
+    ghost MARK = { mark_ac };
+
     const MARK: [u8; 2] = [b'A', b'C'];
 
+    ghost HEAD = { 14 };
+
     const HEAD: usize = 14;
-
-    ghost marks = { mark_ac };
-
-    ghost heads = { 14 };
 
     ghost tails = { no_tail };
 
@@ -175,30 +158,18 @@ impl Kind for Ac {
         let s = spread_at 14 bs size in
         cc };
 
-    fn mark_bytes() -> [u8; 2] {
-        Self::MARK
-    }
-
-    fn head_len() -> usize {
-        Self::HEAD
-    }
-
     fn tail_len(head: &[u8]) -> usize {
         0
     }
 
     fn read(body: &[u8]) -> Option<AccountOpening> {
-        let fields = AccountOpening {
+        AccountOpening {
             account: be32(body, 0),
             supplier: be16(body, 4),
             capacity: be32(body, 6),
             storage: be32(body, 10),
-        };
-        if fields.within_limits() {
-            Some(fields)
-        } else {
-            None
         }
+        .checked()
     }
 
     fn call(fields: AccountOpening) -> Call {
@@ -212,13 +183,13 @@ pub(crate) struct Mv;
 impl Kind for Mv {
     type Fields = AccountMove;
 
+    ghost MARK = { mark_mv };
+
     const MARK: [u8; 2] = [b'M', b'V'];
 
+    ghost HEAD = { 6 };
+
     const HEAD: usize = 6;
-
-    ghost marks = { mark_mv };
-
-    ghost heads = { 6 };
 
     ghost tails = { no_tail };
 
@@ -240,28 +211,16 @@ impl Kind for Mv {
         let s = spread_at 6 bs size in
         cc };
 
-    fn mark_bytes() -> [u8; 2] {
-        Self::MARK
-    }
-
-    fn head_len() -> usize {
-        Self::HEAD
-    }
-
     fn tail_len(head: &[u8]) -> usize {
         0
     }
 
     fn read(body: &[u8]) -> Option<AccountMove> {
-        let fields = AccountMove {
+        AccountMove {
             account: be32(body, 0),
             supplier: be16(body, 4),
-        };
-        if fields.within_limits() {
-            Some(fields)
-        } else {
-            None
         }
+        .checked()
     }
 
     fn call(fields: AccountMove) -> Call {
@@ -275,13 +234,13 @@ pub(crate) struct Gc;
 impl Kind for Gc {
     type Fields = GasCost;
 
+    ghost MARK = { mark_gc };
+
     const MARK: [u8; 2] = [b'G', b'C'];
 
+    ghost HEAD = { 4 };
+
     const HEAD: usize = 4;
-
-    ghost marks = { mark_gc };
-
-    ghost heads = { 4 };
 
     ghost tails = { no_tail };
 
@@ -302,27 +261,15 @@ impl Kind for Gc {
         let s = spread_at 4 bs size in
         cc };
 
-    fn mark_bytes() -> [u8; 2] {
-        Self::MARK
-    }
-
-    fn head_len() -> usize {
-        Self::HEAD
-    }
-
     fn tail_len(head: &[u8]) -> usize {
         0
     }
 
     fn read(body: &[u8]) -> Option<GasCost> {
-        let fields = GasCost {
+        GasCost {
             gas_cost: be32(body, 0),
-        };
-        if fields.within_limits() {
-            Some(fields)
-        } else {
-            None
         }
+        .checked()
     }
 
     fn call(fields: GasCost) -> Call {
@@ -336,13 +283,13 @@ pub(crate) struct Pr;
 impl Kind for Pr {
     type Fields = PriceQuote;
 
+    ghost MARK = { mark_pr };
+
     const MARK: [u8; 2] = [b'P', b'R'];
 
+    ghost HEAD = { 9 };
+
     const HEAD: usize = 9;
-
-    ghost marks = { mark_pr };
-
-    ghost heads = { 9 };
 
     ghost tails = { no_tail };
 
@@ -364,29 +311,17 @@ impl Kind for Pr {
         let s = spread_at 9 bs size in
         cc };
 
-    fn mark_bytes() -> [u8; 2] {
-        Self::MARK
-    }
-
-    fn head_len() -> usize {
-        Self::HEAD
-    }
-
     fn tail_len(head: &[u8]) -> usize {
         0
     }
 
     fn read(body: &[u8]) -> Option<PriceQuote> {
-        let fields = PriceQuote {
+        PriceQuote {
             day: body[0],
             index: be32(body, 1),
             market: be32(body, 5),
-        };
-        if fields.within_limits() {
-            Some(fields)
-        } else {
-            None
         }
+        .checked()
     }
 
     fn call(fields: PriceQuote) -> Call {
@@ -400,13 +335,13 @@ pub(crate) struct Bd;
 impl Kind for Bd {
     type Fields = DayBegin;
 
+    ghost MARK = { mark_bd };
+
     const MARK: [u8; 2] = [b'B', b'D'];
 
+    ghost HEAD = { 2 };
+
     const HEAD: usize = 2;
-
-    ghost marks = { mark_bd };
-
-    ghost heads = { 2 };
 
     ghost tails = { no_tail };
 
@@ -426,28 +361,16 @@ impl Kind for Bd {
         let s = spread_at 2 bs size in
         cc };
 
-    fn mark_bytes() -> [u8; 2] {
-        Self::MARK
-    }
-
-    fn head_len() -> usize {
-        Self::HEAD
-    }
-
     fn tail_len(head: &[u8]) -> usize {
         0
     }
 
     fn read(body: &[u8]) -> Option<DayBegin> {
-        let fields = DayBegin {
+        DayBegin {
             day: body[0],
             kind: body[1],
-        };
-        if fields.within_limits() {
-            Some(fields)
-        } else {
-            None
         }
+        .checked()
     }
 
     fn call(fields: DayBegin) -> Call {
@@ -461,13 +384,13 @@ pub(crate) struct Nm;
 impl Kind for Nm {
     type Fields = Nomination;
 
+    ghost MARK = { mark_nm };
+
     const MARK: [u8; 2] = [b'N', b'M'];
 
+    ghost HEAD = { 11 };
+
     const HEAD: usize = 11;
-
-    ghost marks = { mark_nm };
-
-    ghost heads = { 11 };
 
     ghost tails = { no_tail };
 
@@ -490,32 +413,16 @@ impl Kind for Nm {
         let s = spread_at 11 bs size in
         cc };
 
-    fn mark_bytes() -> [u8; 2] {
-        Self::MARK
-    }
-
-    fn head_len() -> usize {
-        Self::HEAD
-    }
-
     fn tail_len(head: &[u8]) -> usize {
         0
     }
 
     fn read(body: &[u8]) -> Option<Nomination> {
-        let fields = Nomination {
-            line: Line {
-                account: be32(body, 0),
-                pipeline: body[4],
-                therms: be32(body, 5),
-            },
+        Nomination {
+            line: read_line(body, 0),
             minute: be16(body, 9),
-        };
-        if fields.within_limits() {
-            Some(fields)
-        } else {
-            None
         }
+        .checked()
     }
 
     fn call(fields: Nomination) -> Call {
@@ -529,13 +436,13 @@ pub(crate) struct Ed;
 impl Kind for Ed {
     type Fields = DayEnd;
 
+    ghost MARK = { mark_ed };
+
     const MARK: [u8; 2] = [b'E', b'D'];
 
+    ghost HEAD = { 0 };
+
     const HEAD: usize = 0;
-
-    ghost marks = { mark_ed };
-
-    ghost heads = { 0 };
 
     ghost tails = { no_tail };
 
@@ -553,25 +460,12 @@ impl Kind for Ed {
 
     ghost writes = { λ bs bytes size within. spread_at 0 bs size };
 
-    fn mark_bytes() -> [u8; 2] {
-        Self::MARK
-    }
-
-    fn head_len() -> usize {
-        Self::HEAD
-    }
-
     fn tail_len(head: &[u8]) -> usize {
         0
     }
 
     fn read(body: &[u8]) -> Option<DayEnd> {
-        let fields = DayEnd {};
-        if fields.within_limits() {
-            Some(fields)
-        } else {
-            None
-        }
+        DayEnd {}.checked()
     }
 
     fn call(fields: DayEnd) -> Call {
@@ -585,13 +479,13 @@ pub(crate) struct Rl;
 impl Kind for Rl {
     type Fields = Reallocation;
 
+    ghost MARK = { mark_rl };
+
     const MARK: [u8; 2] = [b'R', b'L'];
 
+    ghost HEAD = { 5 };
+
     const HEAD: usize = 5;
-
-    ghost marks = { mark_rl };
-
-    ghost heads = { 5 };
 
     ghost tails = { lines_tail };
 
@@ -609,14 +503,6 @@ impl Kind for Rl {
 
     ghost writes = { λ bs bytes size within. Reallocations.writes bs bytes size };
 
-    fn mark_bytes() -> [u8; 2] {
-        Self::MARK
-    }
-
-    fn head_len() -> usize {
-        Self::HEAD
-    }
-
     fn tail_len(head: &[u8]) -> usize {
         9 * head[4] as usize
     }
@@ -626,17 +512,13 @@ impl Kind for Rl {
         if count > MAX_SHIFTS {
             return None;
         }
-        let fields = Reallocation {
+        Reallocation {
             supplier: be16(body, 0),
             minute: be16(body, 2),
             count,
             lines: read_lines(&body[5..], count),
-        };
-        if fields.within_limits() {
-            Some(fields)
-        } else {
-            None
         }
+        .checked()
     }
 
     fn call(fields: Reallocation) -> Call {
@@ -650,13 +532,13 @@ pub(crate) struct Mr;
 impl Kind for Mr {
     type Fields = MeterReading;
 
+    ghost MARK = { mark_mr };
+
     const MARK: [u8; 2] = [b'M', b'R'];
 
+    ghost HEAD = { 8 };
+
     const HEAD: usize = 8;
-
-    ghost marks = { mark_mr };
-
-    ghost heads = { 8 };
 
     ghost tails = { no_tail };
 
@@ -678,28 +560,16 @@ impl Kind for Mr {
         let s = spread_at 8 bs size in
         cc };
 
-    fn mark_bytes() -> [u8; 2] {
-        Self::MARK
-    }
-
-    fn head_len() -> usize {
-        Self::HEAD
-    }
-
     fn tail_len(head: &[u8]) -> usize {
         0
     }
 
     fn read(body: &[u8]) -> Option<MeterReading> {
-        let fields = MeterReading {
+        MeterReading {
             account: be32(body, 0),
             therms: be32(body, 4),
-        };
-        if fields.within_limits() {
-            Some(fields)
-        } else {
-            None
         }
+        .checked()
     }
 
     fn call(fields: MeterReading) -> Call {
@@ -713,13 +583,13 @@ pub(crate) struct Sd;
 impl Kind for Sd {
     type Fields = DaySettle;
 
+    ghost MARK = { mark_sd };
+
     const MARK: [u8; 2] = [b'S', b'D'];
 
+    ghost HEAD = { 0 };
+
     const HEAD: usize = 0;
-
-    ghost marks = { mark_sd };
-
-    ghost heads = { 0 };
 
     ghost tails = { no_tail };
 
@@ -737,25 +607,12 @@ impl Kind for Sd {
 
     ghost writes = { λ bs bytes size within. spread_at 0 bs size };
 
-    fn mark_bytes() -> [u8; 2] {
-        Self::MARK
-    }
-
-    fn head_len() -> usize {
-        Self::HEAD
-    }
-
     fn tail_len(head: &[u8]) -> usize {
         0
     }
 
     fn read(body: &[u8]) -> Option<DaySettle> {
-        let fields = DaySettle {};
-        if fields.within_limits() {
-            Some(fields)
-        } else {
-            None
-        }
+        DaySettle {}.checked()
     }
 
     fn call(fields: DaySettle) -> Call {
@@ -769,13 +626,13 @@ pub(crate) struct Cm;
 impl Kind for Cm {
     type Fields = MonthClosing;
 
+    ghost MARK = { mark_cm };
+
     const MARK: [u8; 2] = [b'C', b'M'];
 
+    ghost HEAD = { 0 };
+
     const HEAD: usize = 0;
-
-    ghost marks = { mark_cm };
-
-    ghost heads = { 0 };
 
     ghost tails = { no_tail };
 
@@ -793,25 +650,12 @@ impl Kind for Cm {
 
     ghost writes = { λ bs bytes size within. spread_at 0 bs size };
 
-    fn mark_bytes() -> [u8; 2] {
-        Self::MARK
-    }
-
-    fn head_len() -> usize {
-        Self::HEAD
-    }
-
     fn tail_len(head: &[u8]) -> usize {
         0
     }
 
     fn read(body: &[u8]) -> Option<MonthClosing> {
-        let fields = MonthClosing {};
-        if fields.within_limits() {
-            Some(fields)
-        } else {
-            None
-        }
+        MonthClosing {}.checked()
     }
 
     fn call(fields: MonthClosing) -> Call {
@@ -825,13 +669,13 @@ pub(crate) struct Ps;
 impl Kind for Ps {
     type Fields = PostedMaxima;
 
+    ghost MARK = { mark_ps };
+
     const MARK: [u8; 2] = [b'P', b'S'];
 
+    ghost HEAD = { 5 };
+
     const HEAD: usize = 5;
-
-    ghost marks = { mark_ps };
-
-    ghost heads = { 5 };
 
     ghost tails = { no_tail };
 
@@ -853,29 +697,17 @@ impl Kind for Ps {
         let s = spread_at 5 bs size in
         cc };
 
-    fn mark_bytes() -> [u8; 2] {
-        Self::MARK
-    }
-
-    fn head_len() -> usize {
-        Self::HEAD
-    }
-
     fn tail_len(head: &[u8]) -> usize {
         0
     }
 
     fn read(body: &[u8]) -> Option<PostedMaxima> {
-        let fields = PostedMaxima {
+        PostedMaxima {
             day: body[0],
             max_injection: be16(body, 1),
             max_withdrawal: be16(body, 3),
-        };
-        if fields.within_limits() {
-            Some(fields)
-        } else {
-            None
         }
+        .checked()
     }
 
     fn call(fields: PostedMaxima) -> Call {

@@ -9,3 +9,4 @@ mod kinds;
 mod lines;
 mod numbers;
 pub mod reader;
+pub mod records;

@@ -4,8 +4,10 @@ ghost use Rattle.feed.specs.Fields.{line_at, lines_of, padded};
 
 use crate::numbers::be32;
 use calls::fields::Line;
+use calls::limits::BLANK;
 
-fn read_line(bytes: &[u8], at: usize) -> Line
+/// The line whose nine bytes begin at a place.
+pub(crate) fn read_line(bytes: &[u8], at: usize) -> Line
     requires { at + 9 ≤ length bytes.now }
     ensures { result ≡ line_at bytes.now at }
 {
@@ -21,11 +23,8 @@ pub(crate) fn read_lines(bytes: &[u8], count: u8) -> [Line; 200]
     requires { (9 * count ≤ length bytes.now) × (count ≤ 200) }
     ensures { result ≡ padded count (lines_of count bytes.now) }
 {
-    let mut lines = [Line {
-        account: 0,
-        pipeline: 0,
-        therms: 0,
-    }; 200];
+    // `array::from_fn` is no plainer: each place would ask whether it is below the count, to read a line or to stay blank.
+    let mut lines = [BLANK; 200];
     for i in 0..count {
         lines[i as usize] = read_line(bytes, 9 * i as usize);
     }

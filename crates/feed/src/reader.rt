@@ -3,27 +3,21 @@ ghost use Rattle.std.specs.Prelude.{◌≡◌, ℕ, ◌+◌, ◌≤◌, length, 
 ghost use Rattle.feed.specs.Cuts.{Counted};
 ghost use Rattle.feed.specs.Records.{form, read_form, first_record};
 
-use crate::fault::{Fault, FeedRefusal, Layer};
+use crate::fault::{Fault, FeedRefusal};
 use crate::kinds::{Ac, Bd, Cm, Ed, Gc, Kind, Mb, Mr, Mv, Nm, Pr, Ps, Rl, Sd};
+use crate::records::Records;
 use calls::fields::Call;
 
 /// What follows a mark of the kind `K`; the length counts the mark.
 fn read_kind<K: Kind>(rest: &[u8]) -> Result<(Call, usize), FeedRefusal>
-    ensures value { result ≡ read_form (form K.Kind.marks K.Kind.heads K.Kind.tails K.Kind.within K.Kind.decode K.Kind.calls) rest.now }
+    ensures value { result ≡ read_form (form K.Kind.MARK K.Kind.HEAD K.Kind.tails K.Kind.within K.Kind.decode K.Kind.calls) rest.now }
     ensures bound { IfOk result (λ p. (2 ≤ p.1) × (p.1 ≤ length rest.now + 2)) }
 {
-    let head = K::head_len();
-    if rest.len() < head {
-        return Err(FeedRefusal::Cut);
-    }
-    let size = head + K::tail_len(&rest[0..head]);
-    if rest.len() < size {
-        return Err(FeedRefusal::Cut);
-    }
-    match K::read(&rest[0..size]) {
-        Some(fields) => Ok((K::call(fields), size + 2)),
-        None => Err(FeedRefusal::OutsideLimits),
-    }
+    let head = rest.get(..K::HEAD).ok_or(FeedRefusal::Cut)?;
+    let size = K::HEAD + K::tail_len(head);
+    let body = rest.get(..size).ok_or(FeedRefusal::Cut)?;
+    let fields = K::read(body).ok_or(FeedRefusal::OutsideLimits)?;
+    Ok((K::call(fields), size + 2))
 }
 
 /// The feed's first record, and the bytes that it takes, at least two.
@@ -54,22 +48,10 @@ pub fn read_record(feed: &[u8]) -> Result<(Call, usize), FeedRefusal>
 pub fn count_records(feed: &[u8]) -> Result<usize, Fault>
     ensures { Counted feed.now result }
 {
-    let mut offset = 0;
     let mut count = 0;
-    while offset < feed.len() {
-        match read_record(&feed[offset..]) {
-            Ok((call, length)) => {
-                offset += length;
-                count += 1;
-            }
-            Err(cause) => {
-                return Err(Fault {
-                    ordinal: count + 1,
-                    offset,
-                    layer: Layer::Feed(cause),
-                });
-            }
-        }
+    for record in Records::new(feed) {
+        record?;
+        count += 1;
     }
     Ok(count)
 }

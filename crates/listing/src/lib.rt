@@ -4,141 +4,82 @@
 
 #![tactic(auto)]
 
-ghost use Rattle.std.specs.Prelude.{◌≡◌, ℕ, ◌++◌, length, IfOk, Some, string_bytes, OnOk};
-ghost use Rattle.calls.specs.declared.fields.Call.TheVariants.{Nominate, Post, Reallocate};
-ghost use Rattle.feed.specs.Marks.{mark_nm, mark_ps, mark_rl};
-ghost use Rattle.listing.specs.Listing.{lines_figures, mark_of, figures_of, figures_text, call_text, ending_text, Listed};
+ghost use Rattle.std.specs.Prelude.{◌≡◌, ◌++◌, IfOk, Some, string_bytes};
+ghost use Rattle.calls.specs.Limits.{named_lines};
+ghost use Rattle.listing.specs.Listing.{line_figures, lines_figures, mark_of, figures_of, figures_text, Listed};
 
-use calls::fields::{Call, Line, Nomination, PostedMaxima, Reallocation};
-use feed::fault::{Fault, Layer};
-use feed::reader::read_record;
+use calls::fields::{Call, Line, Reallocation};
+use feed::records::Records;
 use std::alloc::{AllocError, Global};
+use std::fmt;
 
-/// Adds figures, each behind a space.
-fn push_figures(heap: Global, out: &mut String, figures: &[u32]) -> Result<(), AllocError>
-    ensures { OnOk result (string_bytes out.new ≡ string_bytes out.old ++ figures_text figures.now) }
-{
-    for figure in figures {
-        let n = *figure;
-        let text = format!(in heap; " {n}")?;
-        out.push_str(text.as_str())?;
-    }
-    Ok(())
-}
+/// A line's figures, each behind a space.
+#[derive(Clone, Copy)]
+struct LineFigures<'c>(&'c Line);
 
-/// Adds the figures of lines.
-fn push_lines(heap: Global, out: &mut String, lines: &[Line]) -> Result<(), AllocError>
-    ensures { OnOk result (string_bytes out.new ≡ string_bytes out.old ++ figures_text (lines_figures lines.now)) }
-{
-    for line in lines {
-        push_figures(
-            heap,
-            out,
-            &[line.account, line.pipeline as u32, line.therms],
-        )?;
-    }
-    Ok(())
-}
+impl fmt::Display for LineFigures<'_> {
+    ghost output = { λ figures. Some (figures_text (line_figures figures.0.now)) };
 
-/// Adds a mark and figures.
-fn push_marked(
-    heap: Global,
-    out: &mut String,
-    mark: &str,
-    figures: &[u32],
-) -> Result<(), AllocError>
-    ensures { OnOk result (string_bytes out.new ≡ string_bytes out.old ++ (mark.now ++ figures_text figures.now)) }
-{
-    out.push_str(mark)?;
-    push_figures(heap, out, figures)?;
-    Ok(())
-}
-
-fn push_reallocation(heap: Global, out: &mut String, call: &Reallocation) -> Result<(), AllocError>
-    ensures { OnOk result (string_bytes out.new ≡ string_bytes out.old ++ (mark_rl ++ figures_text (figures_of (Reallocate call.now)))) }
-{
-    push_marked(
-        heap,
-        out,
-        "RL",
-        &[call.supplier as u32, call.minute as u32, call.count as u32],
-    )?;
-    let count = (call.count as usize).min(200);
-    push_lines(heap, out, &call.lines[0..count])?;
-    Ok(())
-}
-
-fn push_nomination(heap: Global, out: &mut String, call: &Nomination) -> Result<(), AllocError>
-    ensures { OnOk result (string_bytes out.new ≡ string_bytes out.old ++ (mark_nm ++ figures_text (figures_of (Nominate call.now)))) }
-{
-    let line = call.line;
-    let figures = [
-        line.account,
-        line.pipeline as u32,
-        line.therms,
-        call.minute as u32,
-    ];
-    push_marked(heap, out, "NM", &figures)
-}
-
-fn push_posting(heap: Global, out: &mut String, call: &PostedMaxima) -> Result<(), AllocError>
-    ensures { OnOk result (string_bytes out.new ≡ string_bytes out.old ++ (mark_ps ++ figures_text (figures_of (Post call.now)))) }
-{
-    let figures = [
-        call.day as u32,
-        call.max_injection as u32,
-        call.max_withdrawal as u32,
-    ];
-    push_marked(heap, out, "PS", &figures)
-}
-
-/// Adds a call's mark and fields.
-fn push_fields(heap: Global, out: &mut String, call: &Call) -> Result<(), AllocError>
-    ensures { OnOk result (string_bytes out.new ≡ string_bytes out.old ++ (mark_of call.now ++ figures_text (figures_of call.now))) }
-{
-    match call {
-        Call::BeginMonth(c) => push_marked(
-            heap,
-            out,
-            "MB",
-            &[c.year as u32, c.month as u32, c.loss as u32],
-        ),
-        Call::OpenAccount(c) => push_marked(
-            heap,
-            out,
-            "AC",
-            &[c.account, c.supplier as u32, c.capacity, c.storage],
-        ),
-        Call::MoveAccount(c) => push_marked(heap, out, "MV", &[c.account, c.supplier as u32]),
-        Call::SetGasCost(c) => push_marked(heap, out, "GC", &[c.gas_cost]),
-        Call::SetPrice(c) => push_marked(heap, out, "PR", &[c.day as u32, c.index, c.market]),
-        Call::BeginDay(c) => push_marked(heap, out, "BD", &[c.day as u32, c.kind as u32]),
-        Call::Nominate(c) => push_nomination(heap, out, c),
-        Call::EndDay(_) => push_marked(heap, out, "ED", &[]),
-        Call::Reallocate(c) => push_reallocation(heap, out, c),
-        Call::Read(c) => push_marked(heap, out, "MR", &[c.account, c.therms]),
-        Call::Settle(_) => push_marked(heap, out, "SD", &[]),
-        Call::Close(_) => push_marked(heap, out, "CM", &[]),
-        Call::Post(c) => push_posting(heap, out, c),
+    fn fmt<W: fmt::Write>(&self, f: &mut fmt::Formatter<W>) -> fmt::Result {
+        let line = self.0;
+        write!(f, " {} {} {}", line.account, line.pipeline, line.therms)
     }
 }
 
-/// Adds a call's line.
-fn push_call(heap: Global, out: &mut String, call: &Call) -> Result<(), AllocError>
-    ensures { OnOk result (string_bytes out.new ≡ string_bytes out.old ++ call_text call.now) }
-{
-    push_fields(heap, out, call)?;
-    out.push_str("\n")?;
-    Ok(())
+/// The figures of lines, one line after another.
+#[derive(Clone, Copy)]
+struct LinesFigures<'c>(&'c [Line]);
+
+impl fmt::Display for LinesFigures<'_> {
+    ghost output = { λ figures. Some (figures_text (lines_figures figures.0.now)) };
+
+    fn fmt<W: fmt::Write>(&self, f: &mut fmt::Formatter<W>) -> fmt::Result {
+        for line in self.0 {
+            write!(f, "{}", LineFigures(line))?;
+        }
+        Ok(())
+    }
 }
 
-/// Adds a fault's line.
-fn push_fault(heap: Global, out: &mut String, fault: &Fault) -> Result<(), AllocError>
-    ensures { OnOk result (string_bytes out.new ≡ string_bytes out.old ++ ending_text (Some fault.now)) }
+/// The lines that a reallocation names.
+fn named_lines(shift: &Reallocation) -> &[Line]
+    ensures { result.now ≡ named_lines shift.now }
 {
-    let text = format!(in heap; "{fault}\n")?;
-    out.push_str(text.as_str())?;
-    Ok(())
+    let places = shift.lines.as_slice();
+    &places[..(shift.count as usize).min(places.len())]
+}
+
+/// A call's mark and fields.
+#[derive(Clone, Copy)]
+struct CallFigures<'c>(&'c Call);
+
+impl fmt::Display for CallFigures<'_> {
+    ghost output = { λ call. Some (mark_of call.0.now ++ figures_text (figures_of call.0.now)) };
+
+    fn fmt<W: fmt::Write>(&self, f: &mut fmt::Formatter<W>) -> fmt::Result {
+        match self.0 {
+            Call::BeginMonth(c) => write!(f, "MB {} {} {}", c.year, c.month, c.loss),
+            Call::OpenAccount(c) => write!(
+                f,
+                "AC {} {} {} {}",
+                c.account, c.supplier, c.capacity, c.storage
+            ),
+            Call::MoveAccount(c) => write!(f, "MV {} {}", c.account, c.supplier),
+            Call::SetGasCost(c) => write!(f, "GC {}", c.gas_cost),
+            Call::SetPrice(c) => write!(f, "PR {} {} {}", c.day, c.index, c.market),
+            Call::BeginDay(c) => write!(f, "BD {} {}", c.day, c.kind),
+            Call::Nominate(c) => write!(f, "NM{} {}", LineFigures(&c.line), c.minute),
+            Call::EndDay(_) => write!(f, "ED"),
+            Call::Reallocate(c) => {
+                let lines = LinesFigures(named_lines(c));
+                write!(f, "RL {} {} {}{lines}", c.supplier, c.minute, c.count)
+            }
+            Call::Read(c) => write!(f, "MR {} {}", c.account, c.therms),
+            Call::Settle(_) => write!(f, "SD"),
+            Call::Close(_) => write!(f, "CM"),
+            Call::Post(c) => write!(f, "PS {} {} {}", c.day, c.max_injection, c.max_withdrawal),
+        }
+    }
 }
 
 /// The listing of a feed.
@@ -146,22 +87,11 @@ pub fn listing(heap: Global, feed: &[u8]) -> Result<String, AllocError>
     ensures { IfOk result (λ text. Listed feed.now (string_bytes text)) }
 {
     let mut out = String::new(heap);
-    let mut offset = 0;
-    let mut count = 0;
-    while offset < feed.len() {
-        match read_record(&feed[offset..]) {
-            Ok((call, length)) => {
-                push_call(heap, &mut out, &call)?;
-                offset += length;
-                count += 1;
-            }
-            Err(cause) => {
-                let fault = Fault {
-                    ordinal: count + 1,
-                    offset,
-                    layer: Layer::Feed(cause),
-                };
-                push_fault(heap, &mut out, &fault)?;
+    for record in Records::new(feed) {
+        match record {
+            Ok(call) => writeln!(out, "{}", CallFigures(&call))?,
+            Err(fault) => {
+                writeln!(out, "{fault}")?;
                 return Ok(out);
             }
         }
