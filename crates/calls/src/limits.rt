@@ -33,19 +33,19 @@ pub const BLANK: Line = Line {
 };
 
 /// What has limits, and can be tested against them.
-pub trait Limited: Copy {
+pub trait Limited {
     // Whether every field is within its limits.
     ghost limits: { Self → Bool };
 
     fn within_limits(&self) -> bool
         ensures { result ≡ limits self.now };
+}
 
-    /// The value itself, where it is within its limits.
-    fn checked(self) -> Option<Self>
-        ensures { result ≡ when (limits self) self }
-    {
-        self.within_limits().then_some(self)
-    }
+/// The fields themselves, where they are within their limits.
+pub fn checked<F: Limited + Copy>(fields: F) -> Option<F>
+    ensures { result ≡ when (F.Limited.limits fields) fields }
+{
+    fields.within_limits().then_some(fields)
 }
 
 impl Limited for MonthBegin {

@@ -18,7 +18,7 @@ use calls::fields::{
     AccountMove, AccountOpening, Call, DayBegin, DayEnd, DaySettle, GasCost, MAX_SHIFTS,
     MeterReading, MonthBegin, MonthClosing, Nomination, PostedMaxima, PriceQuote, Reallocation,
 };
-use calls::limits::Limited;
+use calls::limits::checked;
 
 /// A kind of record.
 pub(crate) trait Kind {
@@ -109,12 +109,11 @@ impl Kind for Mb {
     }
 
     fn read(body: &[u8]) -> Option<MonthBegin> {
-        MonthBegin {
+        checked(MonthBegin {
             year: be16(body, 0),
             month: body[2],
             loss: be16(body, 3),
-        }
-        .checked()
+        })
     }
 
     fn call(fields: MonthBegin) -> Call {
@@ -163,13 +162,12 @@ impl Kind for Ac {
     }
 
     fn read(body: &[u8]) -> Option<AccountOpening> {
-        AccountOpening {
+        checked(AccountOpening {
             account: be32(body, 0),
             supplier: be16(body, 4),
             capacity: be32(body, 6),
             storage: be32(body, 10),
-        }
-        .checked()
+        })
     }
 
     fn call(fields: AccountOpening) -> Call {
@@ -216,11 +214,10 @@ impl Kind for Mv {
     }
 
     fn read(body: &[u8]) -> Option<AccountMove> {
-        AccountMove {
+        checked(AccountMove {
             account: be32(body, 0),
             supplier: be16(body, 4),
-        }
-        .checked()
+        })
     }
 
     fn call(fields: AccountMove) -> Call {
@@ -266,10 +263,9 @@ impl Kind for Gc {
     }
 
     fn read(body: &[u8]) -> Option<GasCost> {
-        GasCost {
+        checked(GasCost {
             gas_cost: be32(body, 0),
-        }
-        .checked()
+        })
     }
 
     fn call(fields: GasCost) -> Call {
@@ -316,12 +312,11 @@ impl Kind for Pr {
     }
 
     fn read(body: &[u8]) -> Option<PriceQuote> {
-        PriceQuote {
+        checked(PriceQuote {
             day: body[0],
             index: be32(body, 1),
             market: be32(body, 5),
-        }
-        .checked()
+        })
     }
 
     fn call(fields: PriceQuote) -> Call {
@@ -366,11 +361,10 @@ impl Kind for Bd {
     }
 
     fn read(body: &[u8]) -> Option<DayBegin> {
-        DayBegin {
+        checked(DayBegin {
             day: body[0],
             kind: body[1],
-        }
-        .checked()
+        })
     }
 
     fn call(fields: DayBegin) -> Call {
@@ -418,11 +412,10 @@ impl Kind for Nm {
     }
 
     fn read(body: &[u8]) -> Option<Nomination> {
-        Nomination {
+        checked(Nomination {
             line: read_line(body, 0),
             minute: be16(body, 9),
-        }
-        .checked()
+        })
     }
 
     fn call(fields: Nomination) -> Call {
@@ -465,7 +458,7 @@ impl Kind for Ed {
     }
 
     fn read(body: &[u8]) -> Option<DayEnd> {
-        DayEnd {}.checked()
+        checked(DayEnd {})
     }
 
     fn call(fields: DayEnd) -> Call {
@@ -512,13 +505,12 @@ impl Kind for Rl {
         if count > MAX_SHIFTS {
             return None;
         }
-        Reallocation {
+        checked(Reallocation {
             supplier: be16(body, 0),
             minute: be16(body, 2),
             count,
             lines: read_lines(&body[5..], count),
-        }
-        .checked()
+        })
     }
 
     fn call(fields: Reallocation) -> Call {
@@ -565,11 +557,10 @@ impl Kind for Mr {
     }
 
     fn read(body: &[u8]) -> Option<MeterReading> {
-        MeterReading {
+        checked(MeterReading {
             account: be32(body, 0),
             therms: be32(body, 4),
-        }
-        .checked()
+        })
     }
 
     fn call(fields: MeterReading) -> Call {
@@ -612,7 +603,7 @@ impl Kind for Sd {
     }
 
     fn read(body: &[u8]) -> Option<DaySettle> {
-        DaySettle {}.checked()
+        checked(DaySettle {})
     }
 
     fn call(fields: DaySettle) -> Call {
@@ -655,7 +646,7 @@ impl Kind for Cm {
     }
 
     fn read(body: &[u8]) -> Option<MonthClosing> {
-        MonthClosing {}.checked()
+        checked(MonthClosing {})
     }
 
     fn call(fields: MonthClosing) -> Call {
@@ -702,12 +693,11 @@ impl Kind for Ps {
     }
 
     fn read(body: &[u8]) -> Option<PostedMaxima> {
-        PostedMaxima {
+        checked(PostedMaxima {
             day: body[0],
             max_injection: be16(body, 1),
             max_withdrawal: be16(body, 3),
-        }
-        .checked()
+        })
     }
 
     fn call(fields: PostedMaxima) -> Call {
