@@ -2,14 +2,13 @@
 use denote.Param.Members.{Mut}
 use denote.Ref.{Bor}
 use mathlib.Core.List.{reverse-cons}
-use Rattle.std.proofs.Common.{◌≡◌, ℕ, ◌+◌, ◌-◌, ◌<◌, Bool, true, false, ◌||◌, eqb, List, [], ◌∷◌, ◌++◌, reverse, length, get_or, take, drop, Some, Option, sym, refl, ap, ◌∙◌, subst, add-one, arith}
+use Rattle.std.proofs.Common.{◌≡◌, ℕ, ◌+◌, ◌-◌, ◌<◌, Bool, true, false, cond, ◌||◌, eqb, List, [], ◌∷◌, ◌++◌, reverse, length, get_or, take, drop, Some, Option, sym, refl, ap, ap₂, ◌∙◌, subst, add-one, arith}
 use Rattle.std.specs.declared.ops.RangeInclusive.{RangeInclusive}
 use Rattle.std.specs.Fn.{CalledAt}
 use Rattle.std.specs.Iterator.{FindsItem}
 use Rattle.std.specs.List.{find, list_any, range_with_len}
 use Rattle.std.specs.Range.{range_inclusive_start, range_inclusive_end, range_inclusive_exhausted, range_inclusive_len}
 use Rattle.std.proofs.iter.runs.Sources.{nat_range_inclusive_steps}
-use Rattle.std.proofs.lemmas.Bool.{cond-true, cond-false}
 use Rattle.std.proofs.lemmas.Bool.Decides.{nat_tests}
 use Rattle.std.proofs.lemmas.Iterator.{YieldsList}
 use Rattle.std.proofs.lemmas.Iterator.Adapters.{option_map_id}
@@ -36,18 +35,22 @@ left s = range_with_len (range_inclusive_start s) (many (range_inclusive_start s
 one_left : (a n m : ℕ) → m + 1 ≡ n → range_with_len a n ≡ a ∷ range_with_len (a + 1) m
 one_left a n m e = ap (range_with_len a) (sym e ∙ add-one m)
 
-moved : (spent : Bool) (a c b : ℕ) → (spent ≡ false → c ≡ a) → range_with_len a (many c b spent) ≡ range_with_len c (many c b spent)
+moved : (spent : Bool) (a c b : ℕ) → (spent ≡ false → c ≡ a)
+    → range_with_len a (many c b spent) ≡ range_with_len c (many c b spent)
 moved true a c b h = refl
 moved false a c b h = ap (λ k. range_with_len k (many c b false)) (sym (h refl))
 
 eight : (a b : ℕ) (spent : Bool) → a ≡ 1 → b ≡ 8 → spent ≡ false → range_with_len a (many a b spent) ≡ pipelines
 eight a b spent e f g = rw (e, f, g)
 
-pub pipelines_given : {s : RangeInclusive ℕ} → range_inclusive_start s ≡ 1 → range_inclusive_end s ≡ 8 → range_inclusive_exhausted s ≡ false → YieldsList nat_range_inclusive_steps (λ x. x) s pipelines
+pub pipelines_given : {s : RangeInclusive ℕ}
+    → range_inclusive_start s ≡ 1 → range_inclusive_end s ≡ 8 → range_inclusive_exhausted s ≡ false
+    → YieldsList nat_range_inclusive_steps (λ x. x) s pipelines
 pipelines_given {s} e f g =
     subst (λ ys. YieldsList nat_range_inclusive_steps (λ x. x) s ys) (eight _ _ _ e f g)
     (YieldsList-from_shown nat_range_inclusive_steps (λ x. x) left (λ s t h. length-range_with_len _ _ ∙ h.1.0)
-    (λ s x t h. one_left _ _ _ h.1.1 ∙ ap (λ ys. range_inclusive_start s ∷ ys) (moved _ _ _ _ h.1.2) ∙ ap (λ n. n ∷ left t) (sym h.1.0)) s)
+    (λ s x t h. one_left _ _ _ h.1.1 ∙ ap (λ ys. range_inclusive_start s ∷ ys) (moved _ _ _ _ h.1.2)
+    ∙ ap (λ n. n ∷ left t) (sym h.1.0)) s)
 
 -- the same key among the lines passed, from the last to the first
 abbrev pub same_key : ℕ → Line → Bool
@@ -66,14 +69,11 @@ module _ (xs : List Line) (i : ℕ) (d : Line) (h : i < length xs) where
   passed_more : reverse (take (i + 1) xs) ≡ get_or xs i d ∷ reverse (take i xs)
   passed_more = ap reverse (take_more xs i d h) ∙ reverse-append (take i xs) (get_or xs i d ∷ [])
 
-  abbrev again : Bool
-  again = list_any (same_key (line_key (get_or xs i d))) (take i xs)
-
-  pub repeated_found : again ≡ true → first_repeated (reverse (take i xs)) (drop i xs) ≡ Some (get_or xs i d)
-  repeated_found e =
-      at_drop_more (first_repeated (reverse (take i xs))) xs i d h ∙ cond-true _ _ _ (sym (among_passed (line_key (get_or xs i d)) (take i xs)) ∙ e)
-
-  pub repeated_passed : again ≡ false → first_repeated (reverse (take i xs)) (drop i xs) ≡ first_repeated (reverse (take (i + 1) xs)) (drop (i + 1) xs)
-  repeated_passed e =
-      at_drop_more (first_repeated (reverse (take i xs))) xs i d h ∙ cond-false _ _ _ (sym (among_passed (line_key (get_or xs i d)) (take i xs)) ∙ e)
-      ∙ ap (λ ls. first_repeated ls (drop (i + 1) xs)) (sym passed_more)
+  -- one line on, where r says whether an earlier one has its key
+  pub repeated_more : (r : Bool) → r ≡ list_any (same_key (line_key (get_or xs i d))) (take i xs)
+      → first_repeated (reverse (take i xs)) (drop i xs)
+      ≡ cond r (Some (get_or xs i d)) (first_repeated (reverse (take (i + 1) xs)) (drop (i + 1) xs))
+  repeated_more r e =
+      at_drop_more (first_repeated (reverse (take i xs))) xs i d h
+      ∙ ap₂ (λ b ls. cond b (Some (get_or xs i d)) (first_repeated ls (drop (i + 1) xs)))
+      (sym (e ∙ among_passed _ (take i xs))) (sym passed_more)

@@ -20,11 +20,13 @@ returns c =
     let test = on_pipeline c.args.pipeline in
     let new = sum_by_from_yields_List therms (filter here xs) c.map.result c.sum-new.result c.sum-new.ensures.ran
     (YieldsList-from_map _ therms
-    (YieldsList-at c.map.ensures.source (YieldsList-from_filter _ here (YieldsList-from_slice xs cc) c.filter.ensures.closure (λ x b q k. search (rules, tests))))
+    (YieldsList-at c.map.ensures.source
+    (YieldsList-from_filter _ here (YieldsList-from_slice xs cc) c.filter.ensures.closure (λ x b q k. search (rules, tests))))
     c.map.ensures.closure (λ x r q k. search (rules, tests))) in
     let was = sum_by_from_yields_List stood (filter here xs) c.map-2.result c.sum-was.result c.sum-was.ensures.ran
     (YieldsList-from_map _ stood
-    (YieldsList-at c.map-2.ensures.source (YieldsList-from_filter _ here (YieldsList-from_slice xs cc) c.filter-2.ensures.closure (λ x b q k. search (rules, tests))))
+    (YieldsList-at c.map-2.ensures.source
+    (YieldsList-from_filter _ here (YieldsList-from_slice xs cc) c.filter-2.ensures.closure (λ x b q k. search (rules, tests))))
     c.map-2.ensures.closure (λ x r q k. search (rules, tests))) in
     ap not
     (ap₂ eqb (new ∙ sym (added_is_sum (picked test) here therms (λ l. refl) xs))

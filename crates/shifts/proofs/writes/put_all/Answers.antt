@@ -21,7 +21,8 @@ distinct_drop (suc i) [] d = tt
 distinct_drop (suc i) (x ∷ xs) d = distinct_drop i xs d.1
 
 -- the next line finds its place, since what is left comes to what all of them come to
-has_place : (xs lines start : List Line) (i space : ℕ) → Distinct xs → put_lines (drop i xs) lines ≡ put_lines xs start → length start + count_absent start xs ≤ space → i < length xs → fits line_key space lines (get_or xs i blank_line) ≡ true
+has_place : (xs lines start : List Line) (i space : ℕ) → Distinct xs → put_lines (drop i xs) lines ≡ put_lines xs start
+    → length start + count_absent start xs ≤ space → i < length xs → fits line_key space lines (get_or xs i blank_line) ≡ true
 has_place xs lines start i space d inv enough lt =
     let left = length_puts (drop i xs) lines (distinct_drop i xs d) in
     let whole = length_puts xs start d in
@@ -33,5 +34,7 @@ pub unwrap-requires : goal.unwrap-requires
 unwrap-requires c =
     let xs = c.args.named.now in
     let inv = c.loop-line.invariant in
-    let placed = has_place xs (held c.loop-line.lines.shelf) (held c.args.lines.now.shelf) c.loop-line.line-index (room c.loop-line.lines.shelf) (distinct [] xs c.requires.unrepeated) inv.0 (omega (arith, inv.1, c.requires.space)) c.loop-line-test.true in
+    let apart = distinct [] xs c.requires.unrepeated in
+    let placed = has_place xs (held c.loop-line.lines.shelf) _ c.loop-line.line-index (room c.loop-line.lines.shelf) apart inv.0
+    (omega (arith, inv.1, c.requires.space)) c.loop-line-test.true in
     subst IsOk (sym (c.set.ensures.answer ∙ ap taken_if placed)) refl
