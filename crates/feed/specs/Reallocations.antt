@@ -5,6 +5,7 @@ use Rattle.std.proofs.lemmas.List.{length-take, length-drop, take_at}
 use Rattle.std.proofs.lemmas.Bool.{and_parts, eqb-true}
 use Rattle.std.proofs.lemmas.Bool.Decides.{nat_tests}
 use Rattle.tariff.specs.Each.{each}
+use Rattle.calls.specs.declared.fields.Line.{Line}
 use Rattle.calls.specs.declared.fields.Reallocation.{Reallocation}
 use Rattle.calls.specs.Limits.{is_supplier, is_minute, between, blank_line, is_blank, line_within, named_lines, places_past, reallocation_within}
 use Rattle.feed.specs.Numbers.{Bytes, num1, num2, one, two}
@@ -73,3 +74,11 @@ writes bs bytes size =
     let b = two_num2 bs bytes 2 (one n (drop 5 bs)) in
     let s = spread_drop 5 0 bs (omega arith) in
     ap (λ xs. two (num2 bs 0) (two (num2 bs 2) (one n xs))) tail ∙ a ∙ ap (λ xs. slice_index bs 0 ∷ slice_index bs 1 ∷ xs) b ∙ sym s
+
+-- what the reader makes of bytes is what they say
+pub read_is : (bs rest : List ℕ) (s m : ℕ) (ls : List Line) → rest ≡ drop 5 bs → s ≡ num2 bs 0 → m ≡ num2 bs 2
+    → ls ≡ padded (num1 bs 4) (lines_of (num1 bs 4) rest)
+    → ◌≡◌ {A = Reallocation} (record { supplier = s; minute = m; count = num1 bs 4; lines = ls }) (reallocation_of bs)
+read_is bs rest s m ls er es em el =
+    let l : ls ≡ padded (num1 bs 4) (lines_of (num1 bs 4) (drop 5 bs)) = el ∙ ap (λ xs. padded (num1 bs 4) (lines_of (num1 bs 4) xs)) er in
+    λ i. record { supplier = es i; minute = em i; count = num1 bs 4; lines = l i }
