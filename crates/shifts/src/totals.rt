@@ -22,26 +22,24 @@ fn therms_standing(lines: &Register<Line>, line: &Line) -> u32
 
 /// Whether the named lines come to another total on one pipeline than what stands in their places.
 fn is_changed_on(lines: &Register<Line>, named: &[Line], pipeline: u8) -> bool
-    requires few { length named.now ≤ 200 }
     ensures { result ≡ changes_among (held lines.now.shelf) named.now pipeline }
 {
     let on_pipeline = |line: &&Line| line.pipeline == pipeline;
-    let new: u64 = named
+    let new: u128 = named
         .iter()
         .filter(on_pipeline)
-        .map(|line| u64::from(line.therms))
+        .map(|line| u128::from(line.therms))
         .sum();
-    let was: u64 = named
+    let was: u128 = named
         .iter()
         .filter(on_pipeline)
-        .map(|line| u64::from(therms_standing(lines, line)))
+        .map(|line| u128::from(therms_standing(lines, line)))
         .sum();
     new != was
 }
 
 /// The first pipeline whose total changes.
 pub fn first_changed(lines: &Register<Line>, named: &[Line]) -> Option<u8>
-    requires few { length named.now ≤ 200 }
     ensures { result ≡ find (changes_among (held lines.now.shelf) named.now) pipelines }
 {
     (1..=PIPELINES).find(|pipeline| is_changed_on(lines, named, *pipeline))

@@ -1,5 +1,5 @@
 //! Lines: nominated, and shifted after the gas day.
-ghost use Rattle.std.specs.Prelude.{◌≡◌, ◌≤◌, true, length};
+ghost use Rattle.std.specs.Prelude.{◌≡◌, true};
 ghost use Rattle.calls.specs.declared.fields.Call.TheVariants.{Nominate, Reallocate};
 ghost use Rattle.calls.specs.Limits.{reallocation_within, named_lines};
 ghost use Rattle.ledger.specs.Effects.{with_lines, put_line, put_lines};
@@ -43,7 +43,6 @@ impl<'a> Tables<'a> {
 
     /// Refuses a reallocation past its limits and its stage, or allows it.
     fn check_shift(&self, supplier: u16, minute: u16, named: &[Line]) -> Result<(), Refusal>
-        requires { length named.now ≤ 200 }
         ensures { result ≡ allowed_by (shift_verdict (state_of self.now) supplier minute named.now) }
     {
         if let Some(account) = first_unknown(&self.accounts, named) {
@@ -72,7 +71,6 @@ impl<'a> Tables<'a> {
     }
 
     fn shift(&mut self, supplier: u16, minute: u16, named: &[Line]) -> Result<usize, Refusal>
-        requires { length named.now ≤ 200 }
         ensures after { state_of self.new ≡ after_by (shift_verdict (state_of self.old) supplier minute named.now) (with_lines (put_lines named.now (state_of self.old).lines) (state_of self.old)) (state_of self.old) }
         ensures answer { result ≡ answer_by (shift_verdict (state_of self.old) supplier minute named.now) 0 }
         ensures unchanged { Untouched result self.old self.new }
