@@ -33,8 +33,5 @@ module _ {X Y : Type 0} {f : X → X} {g : X → Y} {i : ℕ} {start now : List 
         longer = omega (arith, d.longer);
       }
 
-  pub all_made : length start ≤ i → now ≡ map f start
-  all_made hs = sym (take_all i now (omega (arith, d.long))) ∙ d.made ∙ ap (map f) (take_all i start hs)
-
   pub all_wrote : length start ≤ i → out ≡ old ++ map g start
   all_wrote hs = d.wrote ∙ ap (λ xs. old ++ map g xs) (take_all i start hs)

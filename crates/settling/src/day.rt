@@ -20,17 +20,6 @@ use tariff::day_rule::DayRule;
 use tariff::question::Question;
 use tariff::settling::{GasDay, settle_day};
 
-/// What the day's rule is given for an account whose lines come to so many therms.
-fn question_of(day: &GasDay, therms: u32, account: &Account) -> Question
-    requires account { account_within account.now ≡ true }
-    requires read { has_reading account.now ≡ true }
-    requires deliverable { therms ≤ 8000000 }
-    ensures { result.figures ≡ figures_on (terms_of_day day.now) therms account.now }
-{
-    let used = account.reading.unwrap();
-    day.question(therms, used, &inventory_of(account)).unwrap()
-}
-
 /// The settling of a day, account by account; a reading goes with the day.
 #[derive(Drop)]
 pub(crate) struct Settlement<'r, 'd, R> {
@@ -48,7 +37,11 @@ impl<'r, 'd, R: DayRule> Walk for Settlement<'r, 'd, R> {
     ghost numbered = { λ _ _ _. refl };
 
     fn one(&self, therms: u32, account: &mut Account) -> Row {
-        let question = question_of(self.day, therms, account);
+        let used = account.reading.unwrap();
+        let question = self
+            .day
+            .question(therms, used, &inventory_of(account))
+            .unwrap();
         let settled = settle_day(self.rule, &question, &self.day.prices);
         let row = settled_row(self.day.date(), account, &question.figures(), &settled);
         account.storage = settled.storage_after;
