@@ -44,6 +44,7 @@ impl From<Untaken> for Refusal {
     }
 }
 
+// Numbers beside the enum: what a fault prints is known to its readers by a number, and 0 stands where nothing is named.
 impl Refusal {
     /// The number by which the refusal is known.
     pub fn number(&self) -> u8

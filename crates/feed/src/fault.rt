@@ -29,6 +29,7 @@ pub struct Fault {
     pub layer: Layer,
 }
 
+// A number and a named value are what a fault prints, so both are answered as numbers, 0 where nothing is named.
 impl Layer {
     pub fn name(&self) -> &'static str
         ensures { result.now ≡ layer_name self.now }

@@ -57,6 +57,7 @@ pub(crate) trait Kind {
         requires { length body.now ≡ HEAD + tails (take HEAD body.now) }
         ensures { result ≡ when (within (decode body.now)) (decode body.now) };
 
+    // A `From` for each kind would be no plainer: thirteen blocks more, for the reader alone.
     fn call(fields: Self::Fields) -> Call
         ensures { result ≡ calls fields };
 
@@ -502,6 +503,7 @@ impl Kind for Rl {
 
     fn read(body: &[u8]) -> Option<Reallocation> {
         let count = body[4];
+        // Past the most lines there is no place to read one into.
         if count > MAX_SHIFTS {
             return None;
         }

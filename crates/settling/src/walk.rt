@@ -18,6 +18,7 @@ use register::table::Register;
 use tariff::inventory::Inventory;
 
 /// What is done with one account, given the therms of its lines: it is made anew in its place, and a row is written.
+// A closure would be no plainer: its calls are known by a relation alone, while here what an account becomes has a name of its own.
 pub(crate) trait Walk {
     // What an account has to be for that.
     ghost ready: { Self → ℕ → Account → Bool };

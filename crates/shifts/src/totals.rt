@@ -13,7 +13,7 @@ use calls::limits::PIPELINES;
 use register::keyed::Keyed;
 use register::table::Register;
 
-/// The therms that stand in the line's place.
+/// The therms that stand in the line's place; a line that is absent counts 0.
 fn therms_standing(lines: &Register<Line>, line: &Line) -> u32
     ensures { result ≡ therms_at line.now.account line.now.pipeline (held lines.now.shelf) }
 {

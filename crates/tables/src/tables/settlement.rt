@@ -92,6 +92,7 @@ impl<'a> Tables<'a> {
                 account: account.number,
             });
         }
+        // Two rules of two types: one value for both would be a `dyn`, and no plainer.
         match kind {
             DayKind::Ordinary => self.settle_by(rules.ordinary, &day),
             DayKind::Critical => self.settle_by(rules.critical, &day),
