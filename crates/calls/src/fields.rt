@@ -78,6 +78,19 @@ pub struct Reallocation {
     pub lines: [Line; 200],
 }
 
+impl Reallocation {
+    ghost use Rattle.std.specs.Prelude.{◌≡◌};
+    ghost use Rattle.calls.specs.Limits.{named_lines};
+
+    /// The lines that it names: the first `count` of its places.
+    pub fn named_lines(&self) -> &[Line]
+        ensures { result.now ≡ named_lines self.now }
+    {
+        let places = self.lines.as_slice();
+        &places[..(self.count as usize).min(places.len())]
+    }
+}
+
 /// What an account's meter read for the day.
 #[derive(Clone, Copy, PartialEq, Eq, Debug)]
 pub struct MeterReading {

@@ -147,7 +147,7 @@ impl Limited for Reallocation {
         self.supplier >= 1
             && self.minute <= LAST_MINUTE
             && (1..=MAX_SHIFTS).contains(&self.count)
-            && lines_within(&self.lines[..self.count as usize])
+            && lines_within(self.named_lines())
             && lines_blank(&self.lines[self.count as usize..])
     }
 }

@@ -5,10 +5,9 @@
 #![tactic(auto)]
 
 ghost use Rattle.std.specs.Prelude.{◌≡◌, ◌++◌, IfOk, Some, string_bytes};
-ghost use Rattle.calls.specs.Limits.{named_lines};
 ghost use Rattle.listing.specs.Listing.{line_figures, lines_figures, mark_of, figures_of, figures_text, Listed};
 
-use calls::fields::{Call, Line, Reallocation};
+use calls::fields::{Call, Line};
 use feed::records::Records;
 use std::alloc::{AllocError, Global};
 use std::fmt;
@@ -41,14 +40,6 @@ impl fmt::Display for LinesFigures<'_> {
     }
 }
 
-/// The lines that a reallocation names.
-fn named_lines(shift: &Reallocation) -> &[Line]
-    ensures { result.now ≡ named_lines shift.now }
-{
-    let places = shift.lines.as_slice();
-    &places[..(shift.count as usize).min(places.len())]
-}
-
 /// A call's mark and fields.
 #[derive(Clone, Copy)]
 struct CallFigures<'c>(&'c Call);
@@ -71,7 +62,7 @@ impl fmt::Display for CallFigures<'_> {
             Call::Nominate(c) => write!(f, "NM{} {}", LineFigures(&c.line), c.minute),
             Call::EndDay(_) => write!(f, "ED"),
             Call::Reallocate(c) => {
-                let lines = LinesFigures(named_lines(c));
+                let lines = LinesFigures(c.named_lines());
                 write!(f, "RL {} {} {}{lines}", c.supplier, c.minute, c.count)
             }
             Call::Read(c) => write!(f, "MR {} {}", c.account, c.therms),

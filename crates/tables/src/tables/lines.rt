@@ -81,11 +81,10 @@ impl<'a> Tables<'a> {
     }
 
     pub fn reallocate(&mut self, c: &Reallocation) -> Result<usize, Refusal>
-        requires { reallocation_within c.now ≡ true }
         ensures after { state_of self.new ≡ left_by (state_of self.old) (Reallocate c.now) (with_lines (put_lines (named_lines c.now) (state_of self.old).lines) (state_of self.old)) }
         ensures answer { result ≡ later_answer (state_of self.old) (Reallocate c.now) }
         ensures unchanged { Untouched result self.old self.new }
     {
-        self.shift(c.supplier, c.minute, &c.lines[..c.count as usize])
+        self.shift(c.supplier, c.minute, c.named_lines())
     }
 }
