@@ -1,4 +1,3 @@
-use std::test::Fail;
 use tariff::calendar::Month;
 use tariff::closing::close_month;
 use tariff::critical::Critical;
@@ -6,18 +5,17 @@ use tariff::day_rule::DayRule;
 use tariff::inventory::Inventory;
 use tariff::loss::Loss;
 use tariff::ordinary::Ordinary;
-use tariff::posting::PostingLayer;
+use tariff::posting::{PostingError, PostingLayer};
 use tariff::prices::{MonthPrices, Price};
 use tariff::question::{Figures, Question};
+use tariff::tiers::Tiers;
 
 fn days_of(year: u16, number: u8) -> Option<u8> {
-    let month = Month::new(year, number)?;
-    Some(month.days())
+    Month::new(year, number).map(|month| month.days())
 }
 
 fn after(year: u16, number: u8) -> Option<(u16, u8)> {
-    let month = Month::new(year, number)?;
-    let next = month.next()?;
+    let next = Month::new(year, number)?.next()?;
     Some(next.year_and_number())
 }
 
@@ -116,44 +114,44 @@ fn short_day(day: u8) -> Option<Question> {
     })
 }
 
-fn bought_on(layer: &PostingLayer<Ordinary>, day: u8) -> Option<(u32, u32, u32)> {
-    let question = short_day(day)?;
-    let answer = layer.answer(&question);
-    Some((
-        answer.bought.first,
-        answer.bought.second,
-        answer.bought.third,
-    ))
+fn bought_on(layer: &PostingLayer<Ordinary>, day: u8) -> Option<Tiers<u32>> {
+    short_day(day).map(|question| layer.answer(&question).bought)
+}
+
+fn tiers(first: u32, second: u32, third: u32) -> Tiers<u32> {
+    Tiers {
+        first,
+        second,
+        third,
+    }
 }
 
 #[test]
 fn postings(rt: HostRuntime) {
     let mut layer = PostingLayer::over(Ordinary {});
-    assert_eq!(rt; bought_on(&layer, 5), Some((15, 15, 288)));
-    assert!(rt; layer.post(5, 0, 100));
-    assert_eq!(rt; bought_on(&layer, 5), Some((50, 50, 218)));
-    assert_eq!(rt; bought_on(&layer, 6), Some((15, 15, 288)));
-    assert!(rt; layer.post(5, 10_000, 0));
-    assert_eq!(rt; bought_on(&layer, 5), Some((0, 0, 418)));
-    assert!(rt; !layer.post(0, 0, 0));
-    assert!(rt; !layer.post(32, 0, 0));
-    assert!(rt; !layer.post(31, 10_001, 0));
-    assert!(rt; !layer.post(31, 0, 10_001));
-    assert!(rt; layer.post(31, 10_000, 10_000));
+    let outside = Err(PostingError::OutsideLimits);
+    assert_eq!(rt; bought_on(&layer, 5), Some(tiers(15, 15, 288)));
+    assert_eq!(rt; layer.post(5, 0, 100), Ok(()));
+    assert_eq!(rt; bought_on(&layer, 5), Some(tiers(50, 50, 218)));
+    assert_eq!(rt; bought_on(&layer, 6), Some(tiers(15, 15, 288)));
+    assert_eq!(rt; layer.post(5, 10_000, 0), Ok(()));
+    assert_eq!(rt; bought_on(&layer, 5), Some(tiers(0, 0, 418)));
+    assert_eq!(rt; layer.post(0, 0, 0), outside);
+    assert_eq!(rt; layer.post(32, 0, 0), outside);
+    assert_eq!(rt; layer.post(31, 10_001, 0), outside);
+    assert_eq!(rt; layer.post(31, 0, 10_001), outside);
+    assert_eq!(rt; layer.post(31, 10_000, 10_000), Ok(()));
     layer.clear();
-    assert_eq!(rt; bought_on(&layer, 5), Some((15, 15, 288)));
+    assert_eq!(rt; bought_on(&layer, 5), Some(tiers(15, 15, 288)));
 }
 
 #[test]
-fn critical_shortage(rt: HostRuntime) -> Result<(), Fail> {
-    let Some(question) = Question::new(DRY) else {
-        return Err(Fail::new("the question is within the limits"));
-    };
-    let answer = Critical {}.answer(&question);
-    assert_eq!(rt; answer.withdrawn, 1_000);
-    assert_eq!(rt; answer.authorized, 700);
-    assert_eq!(rt; answer.unauthorized, 800);
-    Ok(())
+fn critical_shortage(rt: HostRuntime) {
+    let answer = Question::new(DRY).map(|question| Critical {}.answer(&question));
+    assert_eq!(rt;
+        answer.map(|a| (a.withdrawn, a.authorized, a.unauthorized)),
+        Some((1_000, 700, 800))
+    );
 }
 
 fn june_close(storage: u32) -> Option<(u32, u32, u32, i64)> {
@@ -164,9 +162,12 @@ fn june_close(storage: u32) -> Option<(u32, u32, u32, i64)> {
         average_index: Price::average(75_015, 30)?,
     };
     let close = close_month(&month, &inventory, &prices);
-    let bought = close.bought.first;
-    let sold = close.sold.second;
-    Some((bought, sold, close.storage_after, close.cents))
+    Some((
+        close.bought.first,
+        close.sold.second,
+        close.storage_after,
+        close.cents,
+    ))
 }
 
 // The average index is 2,500.5, so 2,501.

@@ -1,4 +1,6 @@
 //! A day rule of another maker: it leaves storage alone, and keeps the law of day rules.
+ghost use Rattle.std.specs.Prelude.{◌≡◌};
+ghost use Rattle.tariff.specs.Tiers.{tiers};
 ghost use Rattle.months.specs.CashOnly.{cash_only};
 ghost use Rattle.std.proofs.Common.{rules};
 
@@ -6,6 +8,17 @@ use tariff::answer::Answer;
 use tariff::day_rule::DayRule;
 use tariff::question::Question;
 use tariff::tiers::Tiers;
+
+/// All therms in the third tier.
+fn third_only(therms: u32) -> Tiers<u32>
+    ensures { result ≡ tiers 0 0 therms }
+{
+    Tiers {
+        first: 0,
+        second: 0,
+        third: therms,
+    }
+}
 
 /// A surplus is sold and a shortage bought, all in the third tier.
 #[derive(Clone, Copy)]
@@ -21,16 +34,8 @@ impl DayRule for CashOnly {
         Answer {
             injected: 0,
             withdrawn: 0,
-            bought: Tiers {
-                first: 0,
-                second: 0,
-                third: f.used.saturating_sub(f.delivered),
-            },
-            sold: Tiers {
-                first: 0,
-                second: 0,
-                third: f.delivered.saturating_sub(f.used),
-            },
+            bought: third_only(f.used.saturating_sub(f.delivered)),
+            sold: third_only(f.delivered.saturating_sub(f.used)),
             authorized: 0,
             unauthorized: 0,
         }

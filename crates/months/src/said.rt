@@ -1,19 +1,23 @@
-// Calls, short to write; empty memory; and a call made, taken or refused.
+// Calls, short to write; used memory; and a call made, taken or refused.
+ghost use Rattle.std.specs.Prelude.{◌≤◌, length};
+
 use book::book::Book;
+use book::request::DeliveryRequest;
 use calls::fields::{
     AccountMove, AccountOpening, Call, DayBegin, DayEnd, DaySettle, GasCost, Line, MeterReading,
     MonthBegin, MonthClosing, Nomination, PriceQuote, Reallocation,
 };
 use calls::refusal::Refusal;
-use ledger::records::{Account, Row, RowKind, RowTiers, Stage};
+use ledger::records::{Account, Row, RowKind, Stage};
 use std::process::Abort;
 use tariff::calendar::Date;
 use tariff::critical::Critical;
 use tariff::day_rule::DayRule;
 use tariff::ordinary::Ordinary;
+use tariff::tiers::Tiers;
 
 // Memory that held something before.
-pub(crate) const OLD_ACCOUNT: Account = Account {
+const OLD_ACCOUNT: Account = Account {
     number: 7,
     supplier: 7,
     capacity: 7,
@@ -21,25 +25,25 @@ pub(crate) const OLD_ACCOUNT: Account = Account {
     reading: Some(7),
 };
 
-pub(crate) const OLD_LINE: Line = Line {
+const OLD_LINE: Line = Line {
     account: 7,
     pipeline: 7,
     therms: 7,
 };
 
-pub(crate) const OLD_PRICE: PriceQuote = PriceQuote {
+const OLD_PRICE: PriceQuote = PriceQuote {
     day: 7,
     index: 7,
     market: 7,
 };
 
-const OLD_TIERS: RowTiers = RowTiers {
+const OLD_TIERS: Tiers<u64> = Tiers {
     first: 7,
     second: 7,
     third: 7,
 };
 
-pub(crate) const OLD_ROW: Row = Row {
+const OLD_ROW: Row = Row {
     kind: RowKind::Close,
     date: Date {
         year: 7,
@@ -59,6 +63,37 @@ pub(crate) const OLD_ROW: Row = Row {
     storage_after: 7,
     cents: 7,
 };
+
+// Memory with room for A accounts, L lines, P prices and R rows, which held something before.
+#[derive(Drop)]
+pub(crate) struct Memory<const A: usize, const L: usize, const P: usize, const R: usize> {
+    accounts: [Account; A],
+    lines: [Line; L],
+    prices: [PriceQuote; P],
+    rows: [Row; R],
+}
+
+impl<const A: usize, const L: usize, const P: usize, const R: usize> Memory<A, L, P, R> {
+    pub(crate) fn used() -> Self {
+        Memory {
+            accounts: [OLD_ACCOUNT; A],
+            lines: [OLD_LINE; L],
+            prices: [OLD_PRICE; P],
+            rows: [OLD_ROW; R],
+        }
+    }
+
+    // A trial of an Unopened book over this memory.
+    pub(crate) fn trial<'a, T: Abort>(&'a mut self, rt: &'a T) -> Trial<'a, T> {
+        let book = Book::new(
+            &mut self.accounts,
+            &mut self.lines,
+            &mut self.prices,
+            &mut self.rows,
+        );
+        Trial { rt, book }
+    }
+}
 
 pub(crate) fn month(year: u16, month: u8, loss: u16) -> Call {
     Call::BeginMonth(MonthBegin { year, month, loss })
@@ -120,26 +155,19 @@ pub(crate) fn close() -> Call {
     Call::Close(MonthClosing {})
 }
 
-// A reallocation of two lines, a third one where it is not blank.
-pub(crate) fn shift(supplier: u16, minute: u16, first: Line, second: Line, third: Line) -> Call {
+// A reallocation of these lines.
+pub(crate) fn shift(supplier: u16, minute: u16, named: &[Line]) -> Call
+    requires { length named.now ≤ 200 }
+{
     let mut lines = [line(0, 0, 0); 200];
-    lines[0] = first;
-    lines[1] = second;
-    lines[2] = third;
-    let count = if third.account == 0 { 2 } else { 3 };
+    lines[..named.len()].copy_from_slice(named);
     Call::Reallocate(Reallocation {
         supplier,
         minute,
-        count,
+        count: named.len() as u8,
         lines,
     })
 }
-
-pub(crate) const BLANK: Line = Line {
-    account: 0,
-    pipeline: 0,
-    therms: 0,
-};
 
 // A call, and what it should return.
 #[derive(Clone, Copy)]
@@ -162,78 +190,80 @@ pub(crate) fn refused(call: Call, refusal: Refusal) -> Step {
     }
 }
 
-// What a book shows, in few numbers.
+// What a book shows, in few figures; a sum stops at the most that it can hold, since nothing bounds the memory that is lent.
 #[derive(Clone, Copy, PartialEq, Eq, Debug)]
-pub(crate) struct Summary {
-    stage: u8,
-    day: u8,
+struct Summary {
+    stage: Stage,
+    date: Option<Date>,
     accounts: usize,
     suppliers: u64,
     storage: u64,
-    readings: u64,
+    readings: usize,
     lines: usize,
     therms: u64,
     rows: usize,
 }
 
-fn stage_number(stage: Stage) -> u8 {
-    match stage {
-        Stage::Unopened => 0,
-        Stage::Between => 1,
-        Stage::Nominating(_) => 2,
-        Stage::Ended(_) => 3,
-        Stage::Closed => 4,
-    }
-}
-
-pub(crate) fn summary_of(book: &Book) -> Summary {
-    let mut suppliers = 0u64;
-    let mut storage = 0u64;
-    let mut readings = 0u64;
-    for account in book.accounts() {
-        suppliers = suppliers.saturating_add(account.supplier as u64);
-        storage = storage.saturating_add(account.storage as u64);
-        if account.reading.is_some() {
-            readings = readings.saturating_add(1);
-        }
-    }
-    let mut therms = 0u64;
-    for line in book.lines() {
-        therms = therms.saturating_add(line.therms as u64);
-    }
-    let day = match book.date() {
-        Some(date) => date.day,
-        None => 0,
-    };
+fn summary_of(book: &Book) -> Summary {
+    let accounts = book.accounts();
+    let lines = book.lines();
     Summary {
-        stage: stage_number(book.stage()),
-        day,
-        accounts: book.accounts().len(),
-        suppliers,
-        storage,
-        readings,
-        lines: book.lines().len(),
-        therms,
+        stage: book.stage(),
+        date: book.date(),
+        accounts: accounts.len(),
+        suppliers: accounts
+            .iter()
+            .map(|account| u64::from(account.supplier))
+            .fold(0, u64::saturating_add),
+        storage: accounts
+            .iter()
+            .map(|account| u64::from(account.storage))
+            .fold(0, u64::saturating_add),
+        readings: accounts
+            .iter()
+            .filter(|account| account.reading.is_some())
+            .count(),
+        lines: lines.len(),
+        therms: lines
+            .iter()
+            .map(|line| u64::from(line.therms))
+            .fold(0, u64::saturating_add),
         rows: book.rows().len(),
     }
 }
 
-// Makes the calls, one after another, under two rules. After a refusal the book shows what it showed.
-pub(crate) fn walk_under<O: DayRule, C: DayRule>(
-    rt: &impl Abort,
-    book: &mut Book,
-    ordinary: &O,
-    critical: &C,
-    steps: &[Step],
-) {
-    for step in steps {
-        let before = summary_of(book);
-        assert_eq!(rt; book.apply(&step.call, ordinary, critical), step.returns);
-        assert!(rt; step.returns.is_ok() || summary_of(book) == before);
-    }
+// A book under trial.
+#[derive(Drop)]
+pub(crate) struct Trial<'a, T> {
+    rt: &'a T,
+    pub(crate) book: Book<'a>,
 }
 
-// The same, under the tariff's rules.
-pub(crate) fn walk(rt: &impl Abort, book: &mut Book, steps: &[Step]) {
-    walk_under(rt, book, &Ordinary {}, &Critical {}, steps);
+impl<'a, T: Abort> Trial<'a, T> {
+    // Makes the calls, one after another, under two rules. After a refusal the book shows what it showed.
+    pub(crate) fn walk_under<O: DayRule, C: DayRule>(
+        &mut self,
+        ordinary: &O,
+        critical: &C,
+        steps: &[Step],
+    ) {
+        for step in steps {
+            let before = summary_of(&self.book);
+            assert_eq!(self.rt;
+                self.book.apply(&step.call, ordinary, critical),
+                step.returns
+            );
+            assert!(self.rt; step.returns.is_ok() || summary_of(&self.book) == before);
+        }
+    }
+
+    // The same, under the tariff's rules.
+    pub(crate) fn walk(&mut self, steps: &[Step]) {
+        self.walk_under(&Ordinary {}, &Critical {}, steps);
+    }
+
+    // Asks for the quantity to be delivered, which should be so answered.
+    pub(crate) fn ask(&self, request: &DeliveryRequest, answer: Result<u32, Refusal>) {
+        assert_eq!(self.rt; self.book.quantity(request), answer);
+    }
 }

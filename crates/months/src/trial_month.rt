@@ -7,93 +7,76 @@
 // close: account 1 has 860 of at least 1000, so 140 are bought at 3000: 4,200 cents; account 2 has 2265, within 1000 and 2500.
 use crate::cash_only::CashOnly;
 use crate::said::*;
-use book::book::Book;
 use calls::refusal::Refusal;
 use ledger::records::Row;
 use std::process::Abort;
 
-fn first_day(rt: &impl Abort, book: &mut Book) {
-    walk(
-        rt,
-        book,
-        &[
-            taken(month(2025, 2, 0), 0),
-            taken(open(2, 5, 10_000, 2_000), 0),
-            taken(open(1, 5, 10_000, 1_000), 0),
-            refused(settle(), Refusal::WrongStage),
-            taken(begin(1, 0), 0),
-            taken(nominate(1, 1, 200, 600), 0),
-            taken(nominate(2, 1, 100, 780), 0),
-            taken(end(), 0),
-            refused(nominate(1, 1, 300, 600), Refusal::WrongStage),
-            taken(shift(5, 900, line(1, 1, 150), line(2, 1, 150), BLANK), 0),
-            refused(settle(), Refusal::PriceMissing),
-            taken(gas_cost(3_000), 0),
-            refused(settle(), Refusal::PriceMissing),
-            taken(price(1, 2_000, 3_500), 0),
-            refused(settle(), Refusal::ReadingMissing { account: 1 }),
-            taken(read(1, 100), 0),
-            refused(settle(), Refusal::ReadingMissing { account: 2 }),
-            taken(read(2, 200), 0),
-            taken(settle(), 2),
-        ],
-    );
+fn first_day(trial: &mut Trial<impl Abort>) {
+    trial.walk(&[
+        taken(month(2025, 2, 0), 0),
+        taken(open(2, 5, 10_000, 2_000), 0),
+        taken(open(1, 5, 10_000, 1_000), 0),
+        refused(settle(), Refusal::WrongStage),
+        taken(begin(1, 0), 0),
+        taken(nominate(1, 1, 200, 600), 0),
+        taken(nominate(2, 1, 100, 780), 0),
+        taken(end(), 0),
+        refused(nominate(1, 1, 300, 600), Refusal::WrongStage),
+        taken(shift(5, 900, &[line(1, 1, 150), line(2, 1, 150)]), 0),
+        refused(settle(), Refusal::PriceMissing),
+        taken(gas_cost(3_000), 0),
+        refused(settle(), Refusal::PriceMissing),
+        taken(price(1, 2_000, 3_500), 0),
+        refused(settle(), Refusal::ReadingMissing { account: 1 }),
+        taken(read(1, 100), 0),
+        refused(settle(), Refusal::ReadingMissing { account: 2 }),
+        taken(read(2, 200), 0),
+        taken(settle(), 2),
+    ]);
 }
 
-fn second_day(rt: &impl Abort, book: &mut Book) {
-    walk(
-        rt,
-        book,
-        &[
-            taken(price(2, 2_000, 3_500), 0),
-            taken(begin(2, 1), 0),
-            taken(nominate(2, 8, 500, 0), 0),
-            taken(end(), 0),
-            taken(read(1, 300), 0),
-            taken(read(2, 100), 0),
-            taken(settle(), 2),
-            taken(transfer(2, 6), 0),
-        ],
-    );
+fn second_day(trial: &mut Trial<impl Abort>) {
+    trial.walk(&[
+        taken(price(2, 2_000, 3_500), 0),
+        taken(begin(2, 1), 0),
+        taken(nominate(2, 8, 500, 0), 0),
+        taken(end(), 0),
+        taken(read(1, 300), 0),
+        taken(read(2, 100), 0),
+        taken(settle(), 2),
+        taken(transfer(2, 6), 0),
+    ]);
 }
 
-fn quiet_day(rt: &impl Abort, book: &mut Book, day: u8, used: u32) {
-    walk(
-        rt,
-        book,
-        &[
-            taken(price(day, 2_000, 3_500), 0),
-            refused(close(), Refusal::NotDue),
-            taken(begin(day, 0), 0),
-            taken(end(), 0),
-            taken(read(1, 0), 0),
-            taken(read(2, used), 0),
-            taken(settle(), 2),
-        ],
-    );
+fn quiet_day(trial: &mut Trial<impl Abort>, day: u8, used: u32) {
+    trial.walk(&[
+        taken(price(day, 2_000, 3_500), 0),
+        refused(close(), Refusal::NotDue),
+        taken(begin(day, 0), 0),
+        taken(end(), 0),
+        taken(read(1, 0), 0),
+        taken(read(2, used), 0),
+        taken(settle(), 2),
+    ]);
 }
 
 // Account, supplier, storage after and cents of the row at a place.
 fn row_at(rows: &[Row], place: usize) -> Option<(u32, u16, u64, i64)> {
-    let row = rows.get(place)?;
-    Some((row.account, row.supplier, row.storage_after, row.cents))
+    rows.get(place).map(|row| (row.account, row.supplier, row.storage_after, row.cents))
 }
 
 #[test]
 fn february(rt: HostRuntime) {
-    let mut accounts = [OLD_ACCOUNT; 2];
-    let mut lines = [OLD_LINE; 2];
-    let mut prices = [OLD_PRICE; 28];
-    let mut rows = [OLD_ROW; 58];
-    let mut book = Book::new(&mut accounts, &mut lines, &mut prices, &mut rows);
-    first_day(&rt, &mut book);
-    second_day(&rt, &mut book);
-    quiet_day(&rt, &mut book, 3, 200);
+    let mut memory = Memory::<2, 2, 28, 58>::used();
+    let mut trial = memory.trial(&rt);
+    first_day(&mut trial);
+    second_day(&mut trial);
+    quiet_day(&mut trial, 3, 200);
     for day in 4..29u8 {
-        quiet_day(&rt, &mut book, day, 0);
+        quiet_day(&mut trial, day, 0);
     }
-    walk(&rt, &mut book, &[taken(close(), 2)]);
-    let journal = book.rows();
+    trial.walk(&[taken(close(), 2)]);
+    let journal = trial.book.rows();
     assert_eq!(rt; journal.len(), 58);
     assert_eq!(rt; row_at(journal, 0), Some((1, 5, 1_030, -279)));
     assert_eq!(rt; row_at(journal, 1), Some((2, 5, 1_950, 0)));
@@ -102,54 +85,44 @@ fn february(rt: HostRuntime) {
     assert_eq!(rt; row_at(journal, 5), Some((2, 6, 2_265, 4_667)));
     assert_eq!(rt; row_at(journal, 56), Some((1, 5, 1_000, 4_200)));
     assert_eq!(rt; row_at(journal, 57), Some((2, 6, 2_265, 0)));
-    assert_eq!(rt; book.statement(5), 86_471);
-    assert_eq!(rt; book.statement(6), 4_667);
-    assert_eq!(rt; book.statement(7), 0);
+    assert_eq!(rt; trial.book.statement(5), 86_471);
+    assert_eq!(rt; trial.book.statement(6), 4_667);
+    assert_eq!(rt; trial.book.statement(7), 0);
 }
 
 // A month under a rule that leaves storage alone. On day 1 150 against 100 sells 50 at 60 percent of 2000, 600 cents, and 150 against 200
 // buys 50 at 140 percent of 3000, 2,100 cents. Storage never moves, and 1000 and 2000 are within the band at the close.
 #[test]
 fn another_rule(rt: HostRuntime) {
-    let mut accounts = [OLD_ACCOUNT; 2];
-    let mut lines = [OLD_LINE; 2];
-    let mut prices = [OLD_PRICE; 28];
-    let mut rows = [OLD_ROW; 58];
-    let mut book = Book::new(&mut accounts, &mut lines, &mut prices, &mut rows);
-    walk(
-        &rt,
-        &mut book,
-        &[
-            taken(month(2025, 2, 0), 0),
-            taken(open(1, 5, 10_000, 1_000), 0),
-            taken(open(2, 5, 10_000, 2_000), 0),
-            taken(gas_cost(3_000), 0),
-        ],
-    );
-    cash_day(&rt, &mut book, 1, 1, 150, 100, 200);
+    let mut memory = Memory::<2, 2, 28, 58>::used();
+    let mut trial = memory.trial(&rt);
+    trial.walk(&[
+        taken(month(2025, 2, 0), 0),
+        taken(open(1, 5, 10_000, 1_000), 0),
+        taken(open(2, 5, 10_000, 2_000), 0),
+        taken(gas_cost(3_000), 0),
+    ]);
+    cash_day(&mut trial, 1, 1, 150, 100, 200);
     for day in 2..29u8 {
-        cash_day(&rt, &mut book, day, 0, 0, 0, 0);
+        cash_day(&mut trial, day, 0, 0, 0, 0);
     }
-    walk(&rt, &mut book, &[taken(close(), 2)]);
-    assert_eq!(rt; row_at(book.rows(), 0), Some((1, 5, 1_000, -600)));
-    assert_eq!(rt; row_at(book.rows(), 1), Some((2, 5, 2_000, 2_100)));
-    assert_eq!(rt; row_at(book.rows(), 57), Some((2, 5, 2_000, 0)));
-    assert_eq!(rt; book.rows().len(), 58);
-    assert_eq!(rt; book.statement(5), 1_500);
+    trial.walk(&[taken(close(), 2)]);
+    assert_eq!(rt; row_at(trial.book.rows(), 0), Some((1, 5, 1_000, -600)));
+    assert_eq!(rt; row_at(trial.book.rows(), 1), Some((2, 5, 2_000, 2_100)));
+    assert_eq!(rt; row_at(trial.book.rows(), 57), Some((2, 5, 2_000, 0)));
+    assert_eq!(rt; trial.book.rows().len(), 58);
+    assert_eq!(rt; trial.book.statement(5), 1_500);
 }
 
 fn cash_day(
-    rt: &impl Abort,
-    book: &mut Book,
+    trial: &mut Trial<impl Abort>,
     day: u8,
     kind: u8,
     nominated: u32,
     used_by_1: u32,
     used_by_2: u32,
 ) {
-    walk_under(
-        rt,
-        book,
+    trial.walk_under(
         &CashOnly {},
         &CashOnly {},
         &[
