@@ -68,7 +68,7 @@ pub(crate) fn walk_all<W: Walk>(
         let mut account = accounts.all()[place];
         let therms = ahead.pass(account.number);
         let row = walk.one(therms, &mut account);
-        accounts.replace(place, account);
+        accounts.renew(place, account);
         rows.append(row);
     }
 }

@@ -56,7 +56,7 @@ impl<'a, T: Keyed + Copy> Register<'a, T> {
     }
 
     /// Puts a record in the place of one with its key.
-    pub fn replace(&mut self, place: usize, item: T)
+    pub fn renew(&mut self, place: usize, item: T)
         requires held_there { place < length (held self.old.shelf) }
         requires same_key { T.Keyed.key (slice_index_or (held self.old.shelf) place item) ≡ T.Keyed.key item }
         ensures after { held self.new.shelf ≡ slice_set (held self.old.shelf) place item }

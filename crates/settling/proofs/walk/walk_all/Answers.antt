@@ -57,11 +57,11 @@ loop-place-preserved g c =
     let by : Account → ℕ = λ a. standing (of_account a.number) ls in
     record {
       done =
-          more d c.one-row.new.account no_account c.one-row.result (held c.replace.new.self.shelf) (held c.append.new.self) h
+          more d c.one-row.new.account no_account c.one-row.result (held c.renew.new.self.shelf) (held c.append.new.self) h
           (c.one-row.ensures.account ∙ ap (λ t. f t x) whole ∙ ap (λ a. f (by a) a) stood)
           (c.one-row.ensures.row ∙ ap (λ t. r t x) whole ∙ ap (λ a. r (by a) a) stood)
-          c.replace.ensures.after c.append.ensures.after (ap length c.append.ensures.after ∙ length-append _ _);
-      accounts_sized = c.replace.ensures.sized ∙ c.loop-place.invariant.accounts_sized;
+          c.renew.ensures.after c.append.ensures.after (ap length c.append.ensures.after ∙ length-append _ _);
+      accounts_sized = c.renew.ensures.sized ∙ c.loop-place.invariant.accounts_sized;
       rows_sized = c.append.ensures.sized ∙ c.loop-place.invariant.rows_sized;
       left = left_more c.loop-place.ahead.lines.now c.pass-therms.new.self.lines.now ls start i x no_account h stood c.args.accounts.now.rises c.pass-therms.ensures.later c.loop-place.invariant.left;
     }

@@ -2,7 +2,7 @@ use Rattle.std.proofs.Common.{ap, ◌∙◌}
 use Rattle.register.specs.Keys.{rising}
 use Rattle.register.specs.Views.{held}
 use Rattle.register.proofs.AtKeys.{rising_set}
-use Rattle.register.proofs.table.Register.replace.Goals as goal
+use Rattle.register.proofs.table.Register.renew.Goals as goal
 
 pub invariant_of-self : goal.invariant_of-self
 invariant_of-self g c =
