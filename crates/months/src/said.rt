@@ -120,6 +120,7 @@ pub(crate) fn price(day: u8, index: u32, market: u32) -> Call {
     Call::SetPrice(PriceQuote { day, index, market })
 }
 
+// The kind is a byte here as it is in the call.
 pub(crate) fn begin(day: u8, kind: u8) -> Call {
     Call::BeginDay(DayBegin { day, kind })
 }

@@ -46,6 +46,8 @@ pub(crate) fn inventory_of(account: &Account) -> Inventory
 }
 
 /// Walks over all accounts: each is made anew, and its row is added.
+// Accounts and rows are two parameters, and that rows have room for all accounts is a clause: each is lent by itself, and a struct of both
+// would be made for two calls.
 pub(crate) fn walk_all<W: Walk>(
     walk: &W,
     lines: &[Line],

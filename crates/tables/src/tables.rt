@@ -14,7 +14,8 @@ pub(crate) mod settlement;
 
 /// What a book holds.
 // What one table owes another (a price its month, an account its lines) is asked for by the methods that lean on it: the book proves it
-// once for every call, from the law over runs, and as a ghost field here each method would prove it again.
+// once for every call, from the law over runs, and as a ghost field here each method would prove it again. What a refused call leaves as
+// it was speaks of two states, and so stands in each call's own clauses.
 #[derive(Drop)]
 pub struct Tables<'a> {
     pub stage: Stage,

@@ -1,4 +1,4 @@
-//! What a shelf does.
+//! What a shelf does. That its room stays as it was speaks of before and after, and so stands in the clauses of each call that writes.
 ghost use Rattle.std.specs.Prelude.{◌≡◌, ◌+◌, ◌<◌, ◌≤◌, [], ◌∷◌, ◌++◌, length, nat_le, slice_index_or, slice_set};
 ghost use Rattle.std.specs.List.{insert};
 ghost use Rattle.register.specs.Views.{held, room};
