@@ -6,6 +6,7 @@ ghost use Rattle.ledger.specs.Terms.{account_after_close, row_after_close};
 ghost use Rattle.ledger.specs.Safety.{account_within};
 ghost use Rattle.settling.specs.Terms.{terms_of_close};
 
+use crate::lines::Ahead;
 use crate::rows::closed_row;
 use crate::walk::{Walk, inventory_of, walk_all};
 use ledger::records::{Account, Row};
@@ -55,5 +56,5 @@ pub fn close_all(
     ensures rows_sized { room rows.new ≡ room rows.old }
 {
     let month_end = MonthEnd { month, prices };
-    walk_all(&month_end, &[], accounts, rows);
+    walk_all(&month_end, Ahead::none(), accounts, rows);
 }

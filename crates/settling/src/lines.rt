@@ -1,11 +1,13 @@
-//! One pass over the lines, which stand sorted by account: what an account's lines come to. It never looks back.
-ghost use Rattle.std.specs.Prelude.{◌≡◌, ℕ, ◌^◌, ◌<◌, ◌≤◌, true, ◌==◌, filter, sum_by};
+//! The lines, which stand sorted by account, cut off account by account: what an account's lines come to. It never looks back.
+ghost use Rattle.std.specs.Prelude.{◌≡◌, ℕ, ◌^◌, ◌<◌, ◌≤◌, true, [], ◌==◌, filter, sum_by};
 ghost use Rattle.tariff.specs.Each.{each};
 ghost use Rattle.register.specs.Keys.{rising};
+ghost use Rattle.register.specs.Views.{held};
 ghost use Rattle.calls.specs.Limits.{line_within};
 ghost use Rattle.ledger.specs.State.{line_key, standing, of_account};
 
 use calls::fields::Line;
+use register::table::Register;
 
 /// The therms of those lines that are the account's.
 fn therms_of(lines: &[Line], number: u32) -> u32
@@ -28,6 +30,21 @@ pub(crate) struct Ahead<'l> {
 }
 
 impl<'l> Ahead<'l> {
+    /// All lines of a register.
+    pub(crate) fn over(lines: &'l Register<Line>) -> Ahead<'l>
+        requires { each line_within (held lines.now.shelf) ≡ true }
+        ensures { result.lines.now ≡ held lines.now.shelf }
+    {
+        Ahead { lines: lines.all() }
+    }
+
+    /// No line.
+    pub(crate) fn none() -> Ahead<'l>
+        ensures { result.lines.now ≡ [] }
+    {
+        Ahead { lines: &[] }
+    }
+
     /// Adds up the account's lines, and passes them and those of lower accounts.
     pub(crate) fn pass(&mut self, number: u32) -> u32
         requires deliverable { standing (of_account number) self.old.lines.now ≤ 8000000 }

@@ -1,17 +1,14 @@
-//! The walk over all accounts, with their lines beside them: both stand sorted, so one pass over each is enough. It never leaves an
-//! account out, and never looks at an account twice.
+//! The walk over all accounts, with their lines beside them: both stand sorted, so each account's lines are the next ones. It never leaves
+//! an account out, and never looks at an account twice.
 ghost use Rattle.std.specs.Prelude.{◌≡◌, ℕ, ◌+◌, ◌≤◌, Bool, true, ◌++◌, map, length, nat_le};
 ghost use Rattle.tariff.specs.Each.{each};
-ghost use Rattle.register.specs.Keys.{rising};
 ghost use Rattle.register.specs.Views.{held, room};
-ghost use Rattle.calls.specs.Limits.{line_within};
 ghost use Rattle.ledger.specs.declared.records.Account.{Account};
 ghost use Rattle.ledger.specs.declared.records.Row.{Row};
 ghost use Rattle.ledger.specs.Safety.{account_within};
-ghost use Rattle.ledger.specs.State.{line_key, standing, of_account};
+ghost use Rattle.ledger.specs.State.{standing, of_account};
 
 use crate::lines::Ahead;
-use calls::fields::Line;
 use ledger::records::{Account, Row};
 use register::shelf::Shelf;
 use register::table::Register;
@@ -37,6 +34,7 @@ pub(crate) trait Walk {
 }
 
 /// An account's storage beside its capacity.
+// An account is lent memory of whatever content, so it holds plain figures: an `Inventory` in it would ask more of those who lend it.
 pub(crate) fn inventory_of(account: &Account) -> Inventory
     requires { account_within account.now ≡ true }
     ensures storage { result.storage ≡ account.now.storage }
@@ -50,21 +48,19 @@ pub(crate) fn inventory_of(account: &Account) -> Inventory
 // would be made for two calls.
 pub(crate) fn walk_all<W: Walk>(
     walk: &W,
-    lines: &[Line],
+    lines: Ahead,
     accounts: &mut Register<Account>,
     rows: &mut Shelf<Row>,
 )
-    requires ready { each (λ a. W.Walk.ready walk.now (standing (of_account a.number) lines.now) a) (held accounts.old.shelf) ≡ true }
-    requires deliverable { each (λ a. nat_le (standing (of_account a.number) lines.now) 8000000) (held accounts.old.shelf) ≡ true }
-    requires lines_rise { rising line_key lines.now ≡ true }
-    requires lines_within { each line_within lines.now ≡ true }
+    requires ready { each (λ a. W.Walk.ready walk.now (standing (of_account a.number) lines.lines.now) a) (held accounts.old.shelf) ≡ true }
+    requires deliverable { each (λ a. nat_le (standing (of_account a.number) lines.lines.now) 8000000) (held accounts.old.shelf) ≡ true }
     requires space { length (held rows.old) + length (held accounts.old.shelf) ≤ room rows.old }
-    ensures accounts { held accounts.new.shelf ≡ map (λ a. W.Walk.renewed walk.now (standing (of_account a.number) lines.now) a) (held accounts.old.shelf) }
-    ensures rows { held rows.new ≡ held rows.old ++ map (λ a. W.Walk.written walk.now (standing (of_account a.number) lines.now) a) (held accounts.old.shelf) }
+    ensures accounts { held accounts.new.shelf ≡ map (λ a. W.Walk.renewed walk.now (standing (of_account a.number) lines.entry.lines.now) a) (held accounts.old.shelf) }
+    ensures rows { held rows.new ≡ held rows.old ++ map (λ a. W.Walk.written walk.now (standing (of_account a.number) lines.entry.lines.now) a) (held accounts.old.shelf) }
     ensures accounts_sized { room accounts.new.shelf ≡ room accounts.old.shelf }
     ensures rows_sized { room rows.new ≡ room rows.old }
 {
-    let mut ahead = Ahead { lines };
+    let mut ahead = lines;
     // By place: a record lent out for change could change its key, and that keys rise would be lost.
     for place in 0..accounts.all().len() {
         let mut account = accounts.all()[place];

@@ -16,11 +16,11 @@ no_account = record { number = 0; supplier = 0; capacity = 0; storage = 0; readi
 pub loop-place-init : goal.loop-place-init
 loop-place-init g c =
     let start = held c.args.accounts.now.shelf in
-    record { done = begun _ _ start (held c.args.rows.now); accounts_sized = refl; rows_sized = refl; left = all_left c.args.lines.now start }
+    record { done = begun _ _ start (held c.args.rows.now); accounts_sized = refl; rows_sized = refl; left = all_left c.args.lines.lines.now start }
 
 pub pass-therms-requires : goal.pass-therms-requires
 pass-therms-requires g c =
-    let ls = c.args.lines.now in
+    let ls = c.args.lines.lines.now in
     let i = c.loop-place.place in
     let start = held c.args.accounts.now.shelf in
     let x = get_or c.all.result.now i no_account in
@@ -32,7 +32,7 @@ pass-therms-requires g c =
 
 pub one-row-requires : goal.one-row-requires
 one-row-requires g c =
-    let ls = c.args.lines.now in
+    let ls = c.args.lines.lines.now in
     let i = c.loop-place.place in
     let start = held c.args.accounts.now.shelf in
     let x = get_or c.all.result.now i no_account in
@@ -45,7 +45,7 @@ one-row-requires g c =
 pub loop-place-preserved : goal.loop-place-preserved
 loop-place-preserved g c =
     let d = c.loop-place.invariant.done in
-    let ls = c.args.lines.now in
+    let ls = c.args.lines.lines.now in
     let i = c.loop-place.place in
     let start = held c.args.accounts.now.shelf in
     let x = get_or c.all.result.now i no_account in
