@@ -110,8 +110,7 @@ impl<'a> Tables<'a> {
         requires space { length (held self.old.rows) + length (held self.old.accounts.shelf) ≤ room self.old.rows }
         ensures { state_of self.new ≡ day_settled_by (R.DayRule.answers rule.now) (state_of self.old) }
     {
-        let lines = self.lines.all();
-        settle_all(rule, day, lines, &mut self.accounts, &mut self.rows);
+        settle_all(rule, day, &self.lines, &mut self.accounts, &mut self.rows);
         self.lines.clear();
         self.settled += 1;
         self.stage = Stage::Between;
@@ -128,7 +127,7 @@ impl<'a> Tables<'a> {
     {
         MonthPrices {
             gas_cost: price_of(self.gas_cost.unwrap()),
-            average_index: average_index(self.prices.all(), month.days()),
+            average_index: average_index(&self.prices, month.days()),
         }
     }
 
