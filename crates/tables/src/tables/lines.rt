@@ -41,7 +41,7 @@ impl<'a> Tables<'a> {
         Ok(0)
     }
 
-    /// Refuses a reallocation past its limits and its stage, or allows it.
+    /// Refuses a reallocation by what comes after limits and stage, or allows it.
     fn check_shift(&self, supplier: u16, minute: u16, named: &[Line]) -> Result<(), Refusal>
         ensures { result ≡ allowed_by (shift_verdict (state_of self.now) supplier minute named.now) }
     {
@@ -70,21 +70,14 @@ impl<'a> Tables<'a> {
         Ok(())
     }
 
-    fn shift(&mut self, supplier: u16, minute: u16, named: &[Line]) -> Result<usize, Refusal>
-        ensures after { state_of self.new ≡ after_by (shift_verdict (state_of self.old) supplier minute named.now) (with_lines (put_lines named.now (state_of self.old).lines) (state_of self.old)) (state_of self.old) }
-        ensures answer { result ≡ answer_by (shift_verdict (state_of self.old) supplier minute named.now) 0 }
-        ensures unchanged { Untouched result self.old self.new }
-    {
-        self.check_shift(supplier, minute, named)?;
-        put_all(&mut self.lines, named);
-        Ok(0)
-    }
-
     pub fn reallocate(&mut self, c: &Reallocation) -> Result<usize, Refusal>
         ensures after { state_of self.new ≡ left_by (state_of self.old) (Reallocate c.now) (with_lines (put_lines (named_lines c.now) (state_of self.old).lines) (state_of self.old)) }
         ensures answer { result ≡ later_answer (state_of self.old) (Reallocate c.now) }
         ensures unchanged { Untouched result self.old self.new }
     {
-        self.shift(c.supplier, c.minute, c.named_lines())
+        let named = c.named_lines();
+        self.check_shift(c.supplier, c.minute, named)?;
+        put_all(&mut self.lines, named);
+        Ok(0)
     }
 }
