@@ -71,25 +71,28 @@ impl Month {
         Month::new(self.year, self.number + 1).or_else(|| Month::new(self.year + 1, 1))
     }
 
+    /// The date that a day number makes with the month, past the month's end or not.
+    pub(crate) fn dated(&self, day: u8) -> Date
+        ensures { result ≡ date self.now.year self.now.number day }
+    {
+        Date {
+            year: self.year,
+            month: self.number,
+            day,
+        }
+    }
+
     /// The date of a day number; none past the month's end.
     pub fn date(&self, day: u8) -> Option<Date>
         ensures { result ≡ date_in self.now.year self.now.number day }
     {
-        (1..=self.days()).contains(&day).then_some(Date {
-            year: self.year,
-            month: self.number,
-            day,
-        })
+        (1..=self.days()).contains(&day).then_some(self.dated(day))
     }
 
     /// The date of the month's last day.
     pub fn last_day(&self) -> Date
         ensures { result ≡ date self.now.year self.now.number (days_in self.now.year self.now.number) }
     {
-        Date {
-            year: self.year,
-            month: self.number,
-            day: self.days(),
-        }
+        self.dated(self.days())
     }
 }

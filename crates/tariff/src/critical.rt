@@ -8,7 +8,7 @@ use crate::published::part_of;
 use crate::question::Question;
 use crate::tiers::Tiers;
 
-#[derive(Clone, Copy)]
+#[derive(Clone, Copy, PartialEq, Eq, Debug)]
 pub struct Critical {}
 
 impl DayRule for Critical {

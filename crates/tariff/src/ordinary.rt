@@ -7,7 +7,7 @@ use crate::day_rule::DayRule;
 use crate::question::Question;
 use crate::tiers::Tiers;
 
-#[derive(Clone, Copy)]
+#[derive(Clone, Copy, PartialEq, Eq, Debug)]
 pub struct Ordinary {}
 
 impl DayRule for Ordinary {

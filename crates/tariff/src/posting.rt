@@ -8,7 +8,7 @@ ghost use Rattle.tariff.specs.Posted.{posting_high, under_fair, keeps_under};
 
 use crate::answer::Answer;
 use crate::day_rule::DayRule;
-use crate::published::{HUNDREDTHS, part_of};
+use crate::published::{HUNDREDTHS, Maxima, part_of};
 use crate::question::{Figures, LAST_DAY, Question};
 
 /// Most that can be posted, in hundredths of a percent: all of capacity.
@@ -57,13 +57,13 @@ impl Postings {
 
 impl Question {
     /// The same question with other maxima.
-    pub(crate) fn with_maxima(&self, max_injection: u32, max_withdrawal: u32) -> Question
-        requires { (max_injection ≤ self.now.figures.capacity) × (max_withdrawal ≤ self.now.figures.capacity) }
-        ensures { result.figures ≡ with_maxima max_injection max_withdrawal self.now.figures }
+    pub(crate) fn with_maxima(&self, maxima: Maxima<u32>) -> Question
+        requires { (maxima.injection ≤ self.now.figures.capacity) × (maxima.withdrawal ≤ self.now.figures.capacity) }
+        ensures { result.figures ≡ with_maxima maxima.injection maxima.withdrawal self.now.figures }
     {
         let figures = Figures {
-            max_injection,
-            max_withdrawal,
+            max_injection: maxima.injection,
+            max_withdrawal: maxima.withdrawal,
             ..self.figures
         };
         Question { figures }
@@ -135,9 +135,11 @@ impl<R: DayRule> DayRule for PostingLayer<R> {
         let Some(posting) = self.postings.on(f.day) else {
             return self.rule.answer(question);
         };
-        let max_injection = part_of::<HUNDREDTHS>(f.capacity, posting.max_injection);
-        let max_withdrawal = part_of::<HUNDREDTHS>(f.capacity, posting.max_withdrawal);
-        let posted = question.with_maxima(max_injection, max_withdrawal);
+        let maxima = Maxima {
+            injection: part_of::<HUNDREDTHS>(f.capacity, posting.max_injection),
+            withdrawal: part_of::<HUNDREDTHS>(f.capacity, posting.max_withdrawal),
+        };
+        let posted = question.with_maxima(maxima);
         self.rule.answer(&posted)
     }
 }

@@ -11,131 +11,117 @@ pub(crate) const HUNDREDTHS: u16 = 10_000;
 /// A whole in percent.
 pub(crate) const PERCENT: u16 = 100;
 
-/// A month's published daily maxima, in hundredths of a percent of capacity.
-#[derive(Clone, Copy)]
-pub(crate) struct MonthMaxima {
-    injection: u16,
-    withdrawal: u16,
-}
-
-/// A month's published band of storage at its end, in percent of capacity.
-#[derive(Clone, Copy)]
-pub(crate) struct MonthBand {
-    lowest: u16,
-    highest: u16,
-}
-
-/// Most therms that storage may take and give in a day.
+/// The most that storage takes and gives in a day: in therms, or in hundredths of a percent of capacity.
 #[derive(Clone, Copy, PartialEq, Eq, Debug)]
-pub struct Maxima {
-    pub injection: u32,
-    pub withdrawal: u32,
+pub struct Maxima<N> {
+    pub injection: N,
+    pub withdrawal: N,
 }
 
-/// Least and most therms in storage at a month's end.
+/// The least and the most in storage at a month's end: in therms, or in percent of capacity.
 #[derive(Clone, Copy, PartialEq, Eq, Debug)]
-pub struct Band {
-    pub lowest: u32,
-    pub highest: u32,
+pub struct Band<N> {
+    pub lowest: N,
+    pub highest: N,
 }
 
-const DAILY_MAXIMA: [MonthMaxima; 12] = [
-    MonthMaxima {
+const DAILY_MAXIMA: [Maxima<u16>; 12] = [
+    Maxima {
         injection: 30,
         withdrawal: 100,
     },
-    MonthMaxima {
+    Maxima {
         injection: 30,
         withdrawal: 85,
     },
-    MonthMaxima {
+    Maxima {
         injection: 30,
         withdrawal: 60,
     },
-    MonthMaxima {
+    Maxima {
         injection: 30,
         withdrawal: 30,
     },
-    MonthMaxima {
+    Maxima {
         injection: 45,
         withdrawal: 30,
     },
-    MonthMaxima {
+    Maxima {
         injection: 50,
         withdrawal: 30,
     },
-    MonthMaxima {
+    Maxima {
         injection: 45,
         withdrawal: 30,
     },
-    MonthMaxima {
+    Maxima {
         injection: 70,
         withdrawal: 30,
     },
-    MonthMaxima {
+    Maxima {
         injection: 70,
         withdrawal: 30,
     },
-    MonthMaxima {
+    Maxima {
         injection: 70,
         withdrawal: 30,
     },
-    MonthMaxima {
+    Maxima {
         injection: 30,
         withdrawal: 40,
     },
-    MonthMaxima {
+    Maxima {
         injection: 30,
         withdrawal: 85,
     },
 ];
 
-const MONTH_END_BANDS: [MonthBand; 12] = [
-    MonthBand {
+const MONTH_END_BANDS: [Band<u16>; 12] = [
+    Band {
         lowest: 35,
         highest: 45,
     },
-    MonthBand {
+    Band {
         lowest: 10,
         highest: 25,
     },
-    MonthBand {
+    Band {
         lowest: 0,
         highest: 10,
     },
-    MonthBand {
+    Band {
         lowest: 0,
         highest: 10,
     },
-    MonthBand {
+    Band {
         lowest: 10,
         highest: 20,
     },
-    MonthBand {
+    Band {
         lowest: 20,
         highest: 30,
     },
-    MonthBand {
+    Band {
         lowest: 30,
         highest: 40,
     },
-    MonthBand {
+    Band {
         lowest: 50,
         highest: 60,
     },
-    MonthBand {
+    Band {
         lowest: 70,
         highest: 80,
     },
-    MonthBand {
+    Band {
         lowest: 85,
         highest: 100,
     },
-    MonthBand {
+    Band {
         lowest: 75,
         highest: 90,
     },
-    MonthBand {
+    Band {
         lowest: 55,
         highest: 70,
     },
@@ -151,14 +137,14 @@ pub(crate) fn part_of<const WHOLE: u16>(therms: u32, parts: u16) -> u32
     (u64::from(therms) * u64::from(parts) / u64::from(WHOLE)) as u32
 }
 
-fn daily_maxima() -> &'static [MonthMaxima; 12]
+fn daily_maxima() -> &'static [Maxima<u16>; 12]
     ensures table { result.now ≡ daily_maxima }
     ensures bounds { each maxima_bounded result.now ≡ true }
 {
     &DAILY_MAXIMA
 }
 
-fn month_end_bands() -> &'static [MonthBand; 12]
+fn month_end_bands() -> &'static [Band<u16>; 12]
     ensures table { result.now ≡ month_end_bands }
     ensures bounds { each band_bounded result.now ≡ true }
 {
@@ -175,7 +161,7 @@ impl Month {
     }
 
     /// The month's published maxima of a day, for an account of that capacity.
-    pub fn maxima(&self, capacity: u32) -> Maxima
+    pub fn maxima(&self, capacity: u32) -> Maxima<u32>
         ensures value { result ≡ maxima_of self.now.number capacity }
         ensures within { (result.injection ≤ capacity) × (result.withdrawal ≤ capacity) }
     {
@@ -187,7 +173,7 @@ impl Month {
     }
 
     /// The month's band of storage at its end, for an account of that capacity.
-    pub fn band(&self, capacity: u32) -> Band
+    pub fn band(&self, capacity: u32) -> Band<u32>
         ensures value { result ≡ band_of self.now.number capacity }
         ensures within { (result.lowest ≤ result.highest) × (result.highest ≤ capacity) }
     {
