@@ -3,7 +3,7 @@
 pub(crate) mod filling;
 
 /// An account, the therms that it will use, and the day's maxima in hundredths of a percent of capacity.
-#[derive(Clone, Copy)]
+#[derive(Clone, Copy, PartialEq, Eq, Debug)]
 pub struct DeliveryRequest {
     pub account: u32,
     pub used: u32,

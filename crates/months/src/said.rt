@@ -157,15 +157,14 @@ pub(crate) fn close() -> Call {
 }
 
 // A reallocation of these lines.
-pub(crate) fn shift(supplier: u16, minute: u16, named: &[Line]) -> Call
-    requires { length named.now ≤ 200 }
-{
+pub(crate) fn shift(supplier: u16, minute: u16, named: &[Line]) -> Call {
+    let count = named.len().min(200);
     let mut lines = [line(0, 0, 0); 200];
-    lines[..named.len()].copy_from_slice(named);
+    lines[..count].copy_from_slice(&named[..count]);
     Call::Reallocate(Reallocation {
         supplier,
         minute,
-        count: named.len() as u8,
+        count: count as u8,
         lines,
     })
 }

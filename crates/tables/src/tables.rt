@@ -14,8 +14,11 @@ pub(crate) mod settlement;
 
 /// What a book holds.
 // What one table owes another (a price its month, an account its lines) is asked for by the methods that lean on it: the book proves it
-// once for every call, from the law over runs, and as a ghost field here each method would prove it again. What a refused call leaves as
-// it was speaks of two states, and so stands in each call's own clauses.
+// once for every call, from the law over runs, and as a ghost field here each method would prove it again. What an account or a line keeps
+// by itself is asked for there too: they lie in lent memory, and a record that kept it would ask more of those who lend it. What a refused
+// call leaves as it was speaks of two states, and so stands in each call's own clauses.
+// Year, month and loss stay plain figures: a book not opened has none, and beginning a month asks nothing of its caller, where a `Month`
+// and a `Loss` would have to be there before it.
 #[derive(Drop)]
 pub struct Tables<'a> {
     pub stage: Stage,

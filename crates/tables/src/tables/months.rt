@@ -15,6 +15,8 @@ use tariff::calendar::Month;
 
 impl<'a> Tables<'a> {
     /// The month that is open, or was closed last.
+    // A call was matched on its stage before it asks for the month: that the book is open is asked for here and by each caller, as a type
+    // for an open book would be a second one over the same tables.
     pub fn calendar_month(&self) -> Month
         requires ready { Ready (state_of self.now) }
         requires opened { is_unopened self.now.stage ≡ false }
