@@ -24,6 +24,7 @@ pub(crate) fn read_lines(bytes: &[u8], count: u8) -> [Line; 200]
     ensures { result ≡ padded count (lines_of count bytes.now) }
 {
     // `array::from_fn` is no plainer: each place would ask whether it is below the count, to read a line or to stay blank.
+    // `lines.iter_mut().zip(bytes.chunks_exact(9))` was tried: `returns` stayed open, as nothing tells what was written behind a `zip`.
     let mut lines = [BLANK; 200];
     for i in 0..count {
         lines[i as usize] = read_line(bytes, 9 * i as usize);

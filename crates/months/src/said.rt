@@ -7,6 +7,7 @@ use calls::fields::{
     AccountMove, AccountOpening, Call, DayBegin, DayEnd, DaySettle, GasCost, Line, MeterReading,
     MonthBegin, MonthClosing, Nomination, PriceQuote, Reallocation,
 };
+use calls::limits::BLANK;
 use calls::refusal::Refusal;
 use ledger::records::{Account, Row, RowKind, Stage};
 use std::process::Abort;
@@ -160,7 +161,7 @@ pub(crate) fn close() -> Call {
 pub(crate) fn shift(supplier: u16, minute: u16, named: &[Line]) -> Call
     requires { length named.now ≤ 200 }
 {
-    let mut lines = [line(0, 0, 0); 200];
+    let mut lines = [BLANK; 200];
     lines[..named.len()].copy_from_slice(named);
     Call::Reallocate(Reallocation {
         supplier,
