@@ -5,6 +5,7 @@ ghost use Rattle.feed.specs.Fields.{line_at, lines_of, padded};
 use crate::numbers::be32;
 use calls::fields::Line;
 use calls::limits::BLANK;
+use std::array;
 
 /// The line whose nine bytes begin at a place.
 pub(crate) fn read_line(bytes: &[u8], at: usize) -> Line
@@ -23,11 +24,7 @@ pub(crate) fn read_lines(bytes: &[u8], count: u8) -> [Line; 200]
     requires { (9 * count ≤ length bytes.now) × (count ≤ 200) }
     ensures { result ≡ padded count (lines_of count bytes.now) }
 {
-    // `array::from_fn` is no plainer: each place would ask whether it is below the count, to read a line or to stay blank.
-    // `lines.iter_mut().zip(bytes.chunks_exact(9))` was tried: `returns` stayed open, as nothing tells what was written behind a `zip`.
-    let mut lines = [BLANK; 200];
-    for i in 0..count {
-        lines[i as usize] = read_line(bytes, 9 * i as usize);
-    }
-    lines
+    let (nines, _) = bytes.as_chunks::<9>();
+    let named = &nines[..count as usize];
+    array::from_fn(|i| named.get(i).map_or(BLANK, |nine| read_line(nine, 0)))
 }
