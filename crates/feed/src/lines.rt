@@ -7,15 +7,15 @@ use calls::fields::Line;
 use calls::limits::BLANK;
 use std::array;
 
-/// The line whose nine bytes begin at a place.
-pub(crate) fn read_line(bytes: &[u8], at: usize) -> Line
-    requires { at + 9 ≤ length bytes.now }
-    ensures { result ≡ line_at bytes.now at }
+/// The line that the first nine bytes say.
+pub(crate) fn read_line(bytes: &[u8]) -> Line
+    requires { 9 ≤ length bytes.now }
+    ensures { result ≡ line_at bytes.now 0 }
 {
     Line {
-        account: be32(bytes, at),
-        pipeline: bytes[at + 4],
-        therms: be32(bytes, at + 5),
+        account: be32(bytes, 0),
+        pipeline: bytes[4],
+        therms: be32(bytes, 5),
     }
 }
 
@@ -26,5 +26,5 @@ pub(crate) fn read_lines(bytes: &[u8], count: u8) -> [Line; 200]
 {
     let (nines, _) = bytes.as_chunks::<9>();
     let named = &nines[..count as usize];
-    array::from_fn(|i| named.get(i).map_or(BLANK, |nine| read_line(nine, 0)))
+    array::from_fn(|i| named.get(i).map_or(BLANK, |nine| read_line(nine)))
 }
