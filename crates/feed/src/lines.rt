@@ -1,5 +1,5 @@
 //! The lines of a reallocation, nine bytes each.
-ghost use Rattle.std.specs.Prelude.{◌≡◌, ◌+◌, ◌*◌, ◌≤◌, length};
+ghost use Rattle.std.specs.Prelude.{◌≡◌, ◌*◌, ◌≤◌, length};
 ghost use Rattle.feed.specs.Fields.{line_at, lines_of, padded};
 
 use crate::numbers::be32;
