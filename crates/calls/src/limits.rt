@@ -23,6 +23,7 @@ pub const MAX_LINE_THERMS: u32 = 1_000_000;
 pub const LAST_MINUTE: u16 = 1_439;
 
 /// The kind of a Critical Day; 0 is an ordinary one.
+// The highest byte that is a kind, and no enum: the book makes the enum of it where it takes the call.
 pub const CRITICAL: u8 = 1;
 
 /// A place of a reallocation that names no line.

@@ -88,6 +88,7 @@ impl Refusal {
     }
 }
 
+// Numbers beside the enum, as at `Refusal`: a fault prints them.
 impl PostingRefusal {
     pub fn number(&self) -> u8
         ensures { result ≡ posting_number self.now }

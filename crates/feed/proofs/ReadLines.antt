@@ -1,61 +1,61 @@
--- Reading lines one after another.
-use Rattle.std.proofs.Common.{◌≡◌, ℕ, suc, ◌+◌, ◌-◌, ◌*◌, ◌<◌, ◌≤◌, List, [], ◌∷◌, ◌++◌, get_or, take, drop, set, replicate, sym, refl, ap, ◌∙◌, append_assoc, arith, take-append-drop, get_or-drop}
-use Rattle.std.proofs.lemmas.List.{drop-set-lt, drop-replicate, append-nil, drop-drop}
+-- Lines made place by place: a line of the nine bytes that stand there, or a blank one.
+use Rattle.std.proofs.Common.{◌≡◌, ℕ, suc, zero, ◌+◌, ◌-◌, ◌<◌, ◌≤◌, List, [], ◌∷◌, ◌++◌, length, get_or, take, drop, replicate, sym, refl, ap, ◌∙◌, subst, arith}
+use Rattle.std.proofs.lemmas.List.{length-append, length-replicate}
+use Rattle.std.specs.Array.{IsFromFnResultFrom}
+use Rattle.std.specs.Simd.{first_chunks}
 use Rattle.calls.specs.declared.fields.Line.{Line}
 use Rattle.calls.specs.Limits.{blank_line}
-use Rattle.feed.specs.Numbers.{num4}
 use Rattle.feed.specs.Fields.{line_at, lines_of, padded}
+use Rattle.feed.specs.LineBytes.{length_lines}
+use denote.Param.Members.{Mut, Called}
 
--- a line further on
-line_drop : (bs : List ℕ) (i : ℕ) → line_at (drop i bs) 0 ≡ line_at bs i
-line_drop bs i =
-    let at : (k m : ℕ) → i + k ≡ m → get_or (drop i bs) k 0 ≡ get_or bs m 0 = λ k m e. get_or-drop i bs k 0 ∙ ap (λ n. get_or bs n 0) e in
-    let a₀ = at 0 i (omega arith) in
-    let a₁ = at 1 (i + 1) refl in
-    let a₂ = at 2 (i + 2) refl in
-    let a₃ = at 3 (i + 3) refl in
-    let p = at 4 (i + 4) refl in
-    let t₀ = at 5 (i + 5) refl in
-    let t₁ = at 6 (i + 5 + 1) (omega arith) in
-    let t₂ = at 7 (i + 5 + 2) (omega arith) in
-    let t₃ = at 8 (i + 5 + 3) (omega arith) in
-    let account : num4 (drop i bs) 0 ≡ num4 bs i = cc in
-    let therms : num4 (drop i bs) 5 ≡ num4 bs (i + 5) = cc in
-    λ j. record { account = account j; pipeline = p j; therms = therms j }
+-- what an array made by a closure holds at each place, where a call leaves the closure as it was and gives what `h` gives
+made_from : {F B : Type 0} (g : Mut F (ℕ × Unit {0}) B) (f : F) (h : ℕ → B)
+    → ((i : ℕ) (y : B) (q : F) → Called g f (i, tt) y q → (q ≡ f) × (y ≡ h i))
+    → (ys : List B) (n i : ℕ) → IsFromFnResultFrom g f ys i n → (m : ℕ) → m < n → (d : B) → get_or ys (i + m) d ≡ h (i + m)
+made_from g f h k ys zero i r m lt d = absurd (omega arith)
+made_from g f h k ys (suc n) i r zero lt d =
+    let e : i + 0 ≡ i = omega arith in
+    ap (λ z. get_or ys z d) e ∙ r.2.1 d ∙ (k i r.1 r.0 r.3).1 ∙ ap h (sym e)
+made_from g f h k ys (suc n) i r (suc m) lt d =
+    let e : i + 1 + m ≡ i + suc m = omega arith in
+    let rest = subst (λ s. IsFromFnResultFrom g s ys (i + 1) n) (k i r.1 r.0 r.3).0 r.4 in
+    ap (λ z. get_or ys z d) (sym e) ∙ made_from g f h k ys n (i + 1) rest m (omega arith) d ∙ ap h e
 
-lines_more : (n i : ℕ) (bs : List ℕ) → i < n
-    → lines_of (n - i) (drop (9 * i) bs) ≡ line_at bs (9 * i) ∷ lines_of (n - (i + 1)) (drop (9 * (i + 1)) bs)
-lines_more n i bs h =
-    let p : n - i ≡ suc (n - (i + 1)) = omega arith in
-    let q : 9 * i + 9 ≡ 9 * (i + 1) = omega arith in
-    ap (λ k. lines_of k (drop (9 * i) bs)) p
-    ∙ ap (λ l. l ∷ lines_of (n - (i + 1)) (drop 9 (drop (9 * i) bs))) (line_drop bs (9 * i))
-    ∙ ap (λ xs. line_at bs (9 * i) ∷ lines_of (n - (i + 1)) xs) (drop-drop 9 (9 * i) bs ∙ ap (λ k. drop k bs) q)
+pub made_at : {F B : Type 0} (g : Mut F (ℕ × Unit {0}) B) (f : F) (h : ℕ → B)
+    → ((i : ℕ) (y : B) (q : F) → Called g f (i, tt) y q → (q ≡ f) × (y ≡ h i))
+    → (ys : List B) (n : ℕ) → IsFromFnResultFrom g f ys 0 n → (i : ℕ) → i < n → (d : B) → get_or ys i d ≡ h i
+made_at g f h k ys n r i lt d =
+    let e : 0 + i ≡ i = omega arith in
+    ap (λ z. get_or ys z d) (sym e) ∙ made_from g f h k ys n 0 r i lt d ∙ ap h e
 
-lines_none : (n i : ℕ) (bs : List ℕ) → n ≤ i → lines_of (n - i) bs ≡ []
-lines_none n i bs h = let p : n - i ≡ 0 = omega arith in ap (λ k. lines_of k bs) p
+line_of_nine : (bs : List ℕ) → line_at (take 9 bs) 0 ≡ line_at bs 0
+line_of_nine [] = refl
+line_of_nine (a ∷ []) = refl
+line_of_nine (a ∷ b ∷ []) = refl
+line_of_nine (a ∷ b ∷ c ∷ []) = refl
+line_of_nine (a ∷ b ∷ c ∷ d ∷ []) = refl
+line_of_nine (a ∷ b ∷ c ∷ d ∷ e ∷ []) = refl
+line_of_nine (a ∷ b ∷ c ∷ d ∷ e ∷ f ∷ []) = refl
+line_of_nine (a ∷ b ∷ c ∷ d ∷ e ∷ f ∷ g ∷ []) = refl
+line_of_nine (a ∷ b ∷ c ∷ d ∷ e ∷ f ∷ g ∷ h ∷ []) = refl
+line_of_nine (a ∷ b ∷ c ∷ d ∷ e ∷ f ∷ g ∷ h ∷ i ∷ bs) = refl
 
--- one line more is read
-pub push_more : (items more all : List Line) (x : Line) (n i : ℕ) (bs : List ℕ) → i < n
-    → items ++ lines_of (n - i) (drop (9 * i) bs) ≡ all → more ≡ items ++ (x ∷ []) → x ≡ line_at bs (9 * i)
-    → more ++ lines_of (n - (i + 1)) (drop (9 * (i + 1)) bs) ≡ all
-push_more items more all x n i bs h inv e ex =
-    let rest = lines_of (n - (i + 1)) (drop (9 * (i + 1)) bs) in
-    let st : lines_of (n - i) (drop (9 * i) bs) ≡ x ∷ rest = lines_more n i bs h ∙ ap (λ y. y ∷ rest) (sym ex) in
-    ap (λ ys. ys ++ rest) e ∙ append_assoc items (x ∷ []) rest ∙ ap (λ ys. items ++ ys) (sym st) ∙ inv
+blank_at : (k i : ℕ) → get_or (replicate k blank_line) i blank_line ≡ blank_line
+blank_at zero i = refl
+blank_at (suc k) zero = refl
+blank_at (suc k) (suc i) = blank_at k i
 
--- and one blank place fewer is left
-pub blank_more : (lines : List Line) (x : Line) (i : ℕ) → drop i lines ≡ replicate (200 - i) blank_line
-    → drop (i + 1) (set lines i x) ≡ replicate (200 - (i + 1)) blank_line
-blank_more lines x i e =
-    let d : drop (i + 1) lines ≡ drop 1 (drop i lines) = sym (drop-drop 1 i lines) in
-    let p : 200 - i - 1 ≡ 200 - (i + 1) = omega arith in
-    drop-set-lt (i + 1) lines i x (omega arith) ∙ d ∙ ap (λ ys. drop 1 ys) e ∙ drop-replicate 1 (200 - i) blank_line ∙ ap (λ k. replicate k blank_line) p
+-- a place below the count holds the line of its nine bytes, and another is blank
+pub placed : (n m k i : ℕ) (bs : List ℕ) (y : Line) → n ≤ m
+    → (i < n → y ≡ line_at (get_or (take n (first_chunks 9 m bs)) i []) 0) → (n ≤ i → y ≡ blank_line)
+    → y ≡ get_or (lines_of n bs ++ replicate k blank_line) i blank_line
+placed zero m k i bs y le read blank = blank (omega arith) ∙ sym (blank_at k i)
+placed (suc n) zero k i bs y le read blank = absurd (omega arith)
+placed (suc n) (suc m) k zero bs y le read blank = read (omega arith) ∙ line_of_nine bs
+placed (suc n) (suc m) k (suc i) bs y le read blank = placed n m k i (drop 9 bs) y (omega arith) (λ lt. read (omega (arith, lt))) (λ ge. blank (omega (arith, ge)))
 
-pub padded_all : (lines : List Line) (n i : ℕ) (bs : List ℕ) → i ≡ n
-    → take i lines ++ lines_of (n - i) (drop (9 * i) bs) ≡ lines_of n bs → drop i lines ≡ replicate (200 - i) blank_line
-    → lines ≡ padded n (lines_of n bs)
-padded_all lines n i bs e read blank =
-    let front : take i lines ≡ lines_of n bs = sym (append-nil (take i lines)) ∙ ap (λ ys. take i lines ++ ys) (sym (lines_none n i (drop (9 * i) bs) (omega arith))) ∙ read in
-    let back : drop i lines ≡ replicate (200 - n) blank_line = blank ∙ ap (λ k. replicate (200 - k) blank_line) e in
-    sym (take-append-drop i lines) ∙ ap (λ ys. ys ++ drop i lines) front ∙ ap (λ ys. lines_of n bs ++ ys) back
+pub length_padded : (n : ℕ) (bs : List ℕ) → n ≤ 200 → length (padded n (lines_of n bs)) ≡ 200
+length_padded n bs h =
+    length-append (lines_of n bs) (replicate (200 - n) blank_line)
+    ∙ omega (arith, length_lines n bs, length-replicate (200 - n) blank_line)

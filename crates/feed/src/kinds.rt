@@ -414,7 +414,7 @@ impl Kind for Nm {
 
     fn read(body: &[u8]) -> Option<Nomination> {
         checked(Nomination {
-            line: read_line(body, 0),
+            line: read_line(body),
             minute: be16(body, 9),
         })
     }

@@ -1,20 +1,21 @@
 //! The lines of a reallocation, nine bytes each.
-ghost use Rattle.std.specs.Prelude.{◌≡◌, ◌+◌, ◌*◌, ◌≤◌, length};
+ghost use Rattle.std.specs.Prelude.{◌≡◌, ◌*◌, ◌≤◌, length};
 ghost use Rattle.feed.specs.Fields.{line_at, lines_of, padded};
 
 use crate::numbers::be32;
 use calls::fields::Line;
 use calls::limits::BLANK;
+use std::array;
 
-/// The line whose nine bytes begin at a place.
-pub(crate) fn read_line(bytes: &[u8], at: usize) -> Line
-    requires { at + 9 ≤ length bytes.now }
-    ensures { result ≡ line_at bytes.now at }
+/// The line that the first nine bytes say.
+pub(crate) fn read_line(bytes: &[u8]) -> Line
+    requires { 9 ≤ length bytes.now }
+    ensures { result ≡ line_at bytes.now 0 }
 {
     Line {
-        account: be32(bytes, at),
-        pipeline: bytes[at + 4],
-        therms: be32(bytes, at + 5),
+        account: be32(bytes, 0),
+        pipeline: bytes[4],
+        therms: be32(bytes, 5),
     }
 }
 
@@ -23,10 +24,7 @@ pub(crate) fn read_lines(bytes: &[u8], count: u8) -> [Line; 200]
     requires { (9 * count ≤ length bytes.now) × (count ≤ 200) }
     ensures { result ≡ padded count (lines_of count bytes.now) }
 {
-    // `array::from_fn` is no plainer: each place would ask whether it is below the count, to read a line or to stay blank.
-    let mut lines = [BLANK; 200];
-    for i in 0..count {
-        lines[i as usize] = read_line(bytes, 9 * i as usize);
-    }
-    lines
+    let (nines, _) = bytes.as_chunks::<9>();
+    let named = &nines[..count as usize];
+    array::from_fn(|i| named.get(i).map_or(BLANK, |nine| read_line(nine)))
 }

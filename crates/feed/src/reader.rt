@@ -1,4 +1,4 @@
-//! Reading a feed: its first record, and a reader that goes from record to record.
+//! Reading a feed: its first record, and how many records it holds.
 ghost use Rattle.std.specs.Prelude.{◌≡◌, ℕ, ◌+◌, ◌≤◌, length, IfOk};
 ghost use Rattle.feed.specs.Cuts.{Counted};
 ghost use Rattle.feed.specs.Records.{form, read_form, first_record};

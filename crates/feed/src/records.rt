@@ -44,6 +44,7 @@ impl Iterator for Records<'_> {
 
     fn next(&mut self) -> Option<Result<Call, Fault>> {
         if self.rest.is_empty() {
+            // The feed is over, or a fault has ended it.
             return None;
         }
         match read_record(self.rest) {

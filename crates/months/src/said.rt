@@ -7,6 +7,7 @@ use calls::fields::{
     AccountMove, AccountOpening, Call, DayBegin, DayEnd, DaySettle, GasCost, Line, MeterReading,
     MonthBegin, MonthClosing, Nomination, PriceQuote, Reallocation,
 };
+use calls::limits::BLANK;
 use calls::refusal::Refusal;
 use ledger::records::{Account, Row, RowKind, Stage};
 use std::process::Abort;
@@ -159,7 +160,7 @@ pub(crate) fn close() -> Call {
 // A reallocation of these lines.
 pub(crate) fn shift(supplier: u16, minute: u16, named: &[Line]) -> Call {
     let count = named.len().min(200);
-    let mut lines = [line(0, 0, 0); 200];
+    let mut lines = [BLANK; 200];
     lines[..count].copy_from_slice(&named[..count]);
     Call::Reallocate(Reallocation {
         supplier,

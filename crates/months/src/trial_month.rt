@@ -114,6 +114,7 @@ fn another_rule(rt: HostRuntime) {
     assert_eq!(rt; trial.book.statement(5), 1_500);
 }
 
+// The kind is a byte here as it is in the call.
 fn cash_day(
     trial: &mut Trial<impl Abort>,
     day: u8,

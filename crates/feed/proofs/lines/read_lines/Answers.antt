@@ -1,14 +1,20 @@
-use Rattle.std.proofs.Common.{arith, rules}
-use Rattle.std.proofs.lemmas.List.{take_more_set}
-use Rattle.feed.proofs.ReadLines.{push_more, blank_more, padded_all}
+use Rattle.std.proofs.Common.{rules, arith, ◌≡◌, ◌-◌, ◌<◌, ◌≤◌, ◌∙◌, sym, ap, [], length, get_or, take}
+use Rattle.std.proofs.Math.Seq.{ext_get_or}
+use Rattle.calls.specs.Limits.{blank_line}
+use Rattle.feed.specs.Fields.{line_at, lines_of, padded}
+use Rattle.feed.proofs.ReadLines.{made_at, placed, length_padded}
 use Rattle.feed.proofs.lines.read_lines.Goals as goal
 
-pub loop-i-preserved : goal.loop-i-preserved
-loop-i-preserved c = (
-  search rules,
-  push_more _ _ _ c.read_line.result c.args.count c.loop-i.i c.args.bytes.now (search rules) c.loop-i.invariant.1 (take_more_set c.loop-i.lines c.loop-i.i c.read_line.result (search rules)) c.read_line.ensures,
-  blank_more c.loop-i.lines c.read_line.result c.loop-i.i c.loop-i.invariant.2,
-)
-
 pub returns : goal.returns
-returns c = padded_all c.loop-i.lines c.args.count c.loop-i.i c.args.bytes.now (omega arith) c.loop-i.invariant.1 c.loop-i.invariant.2
+returns c =
+    let n = c.args.count in
+    let lines = padded n (lines_of n c.args.bytes.now) in
+    let at = made_at _ _ (λ i. get_or lines i blank_line) (λ i y q k.
+    let read : i < n → y ≡ line_at (get_or (take n c.as_chunks.result.0.now) i []) 0 = λ lt. search rules in
+    let blank : n ≤ i → y ≡ blank_line = λ ge. search rules in (
+      search (rules, k),
+      placed n _ (200 - n) i c.args.bytes.now y (omega (arith, c.requires.0)) (λ lt. read lt ∙ ap (λ xs. line_at (get_or (take n xs) i []) 0) c.as_chunks.ensures.front) blank,
+    ))
+    c.from_fn.result 200 c.from_fn.ensures.items.each in
+    let long : length c.from_fn.result ≡ 200 = c.from_fn.ensures.items.long in
+    ext_get_or blank_line c.from_fn.result lines (long ∙ sym (length_padded n c.args.bytes.now c.requires.1)) (λ i lt. at i (omega (arith, lt, long)) blank_line)
