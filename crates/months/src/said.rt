@@ -1,5 +1,4 @@
 // Calls, short to write; used memory; and a call made, taken or refused.
-ghost use Rattle.std.specs.Prelude.{◌≤◌, length};
 
 use book::book::Book;
 use book::request::DeliveryRequest;

@@ -15,4 +15,4 @@ still_first n limit (Some ys) (Some xs) before read kept el et e h cut =
 pub returns-clause-first : goal.returns-clause-first
 returns-clause-first g c =
     still_first 65536 c.take.result.limit (g.R.Read.remaining c.args.source) (g.R.Read.remaining c.take.result.inner) _ _ _
-      c.take.ensures.limit (ap g.R.Read.remaining c.take.ensures.inner) c.new-feed.ensures.items c.in_ok-read_to_end.ensures.bytes c.truncate.ensures.items
+    c.take.ensures.limit (ap g.R.Read.remaining c.take.ensures.inner) c.new-feed.ensures.items c.in_ok-read_to_end.ensures.bytes c.truncate.ensures.items
