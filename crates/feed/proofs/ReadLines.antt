@@ -53,7 +53,8 @@ pub placed : (n m k i : ℕ) (bs : List ℕ) (y : Line) → n ≤ m
 placed zero m k i bs y le read blank = blank (omega arith) ∙ sym (blank_at k i)
 placed (suc n) zero k i bs y le read blank = absurd (omega arith)
 placed (suc n) (suc m) k zero bs y le read blank = read (omega arith) ∙ line_of_nine bs
-placed (suc n) (suc m) k (suc i) bs y le read blank = placed n m k i (drop 9 bs) y (omega arith) (λ lt. read (omega (arith, lt))) (λ ge. blank (omega (arith, ge)))
+placed (suc n) (suc m) k (suc i) bs y le read blank =
+    placed n m k i (drop 9 bs) y (omega arith) (λ lt. read (omega (arith, lt))) (λ ge. blank (omega (arith, ge)))
 
 pub length_padded : (n : ℕ) (bs : List ℕ) → n ≤ 200 → length (padded n (lines_of n bs)) ≡ 200
 length_padded n bs h =

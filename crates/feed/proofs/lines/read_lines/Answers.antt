@@ -17,4 +17,5 @@ returns c =
     ))
     c.from_fn.result 200 c.from_fn.ensures.items.each in
     let long : length c.from_fn.result ≡ 200 = c.from_fn.ensures.items.long in
-    ext_get_or blank_line c.from_fn.result lines (long ∙ sym (length_padded n c.args.bytes.now c.requires.1)) (λ i lt. at i (omega (arith, lt, long)) blank_line)
+    let same : length c.from_fn.result ≡ length lines = long ∙ sym (length_padded n c.args.bytes.now c.requires.1) in
+    ext_get_or blank_line c.from_fn.result lines same (λ i lt. at i (omega (arith, lt, long)) blank_line)
