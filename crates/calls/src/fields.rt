@@ -87,7 +87,7 @@ impl Reallocation {
         ensures { result.now ≡ named_lines self.now }
     {
         let places = self.lines.as_slice();
-        &places[..(self.count as usize).min(places.len())]
+        &places[..usize::from(self.count).min(places.len())]
     }
 }
 

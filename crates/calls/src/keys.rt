@@ -9,7 +9,7 @@ impl Keyed for Line {
     ghost key = { λ l. l.account * 16 + l.pipeline };
 
     fn key(&self) -> u64 {
-        self.account as u64 * 16 + self.pipeline as u64
+        u64::from(self.account) * 16 + u64::from(self.pipeline)
     }
 }
 
@@ -18,6 +18,6 @@ impl Keyed for PriceQuote {
     ghost key = { λ p. p.day };
 
     fn key(&self) -> u64 {
-        self.day as u64
+        u64::from(self.day)
     }
 }

@@ -149,7 +149,7 @@ impl Limited for Reallocation {
             && self.minute <= LAST_MINUTE
             && (1..=MAX_SHIFTS).contains(&self.count)
             && lines_within(self.named_lines())
-            && lines_blank(&self.lines[self.count as usize..])
+            && lines_blank(&self.lines[usize::from(self.count)..])
     }
 }
 

@@ -77,11 +77,11 @@ impl Refusal {
         match *self {
             Refusal::NoAccount { account } => account,
             Refusal::AlreadyOpen { account } => account,
-            Refusal::PriceGiven { day } => day as u32,
+            Refusal::PriceGiven { day } => u32::from(day),
             Refusal::ReadingGiven { account } => account,
             Refusal::LineRepeated { account } => account,
             Refusal::OtherSupplier { account } => account,
-            Refusal::TotalChanged { pipeline } => pipeline as u32,
+            Refusal::TotalChanged { pipeline } => u32::from(pipeline),
             Refusal::ReadingMissing { account } => account,
             _ => 0,
         }

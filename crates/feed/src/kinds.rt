@@ -498,7 +498,7 @@ impl Kind for Rl {
     ghost writes = { λ bs bytes size within. Reallocations.writes bs bytes size };
 
     fn tail_len(head: &[u8]) -> usize {
-        9 * head[4] as usize
+        9 * usize::from(head[4])
     }
 
     fn read(body: &[u8]) -> Option<Reallocation> {

@@ -25,6 +25,6 @@ pub(crate) fn read_lines(bytes: &[u8], count: u8) -> [Line; 200]
     ensures { result ≡ padded count (lines_of count bytes.now) }
 {
     let (nines, _) = bytes.as_chunks::<9>();
-    let named = &nines[..count as usize];
+    let named = &nines[..usize::from(count)];
     array::from_fn(|i| named.get(i).map_or(BLANK, |nine| read_line(nine)))
 }

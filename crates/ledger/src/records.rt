@@ -99,6 +99,6 @@ impl Keyed for Account {
     ghost key = { λ a. a.number };
 
     fn key(&self) -> u64 {
-        self.number as u64
+        u64::from(self.number)
     }
 }

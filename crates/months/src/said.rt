@@ -240,7 +240,7 @@ pub(crate) struct Trial<'a, T> {
 }
 
 impl<'a, T: Abort> Trial<'a, T> {
-    // Makes the calls, one after another, under two rules. After a refusal the book shows what it showed.
+    // Makes the calls, one after another, under two rules, which the book takes apart too. After a refusal it shows what it showed.
     pub(crate) fn walk_under<O: DayRule, C: DayRule>(
         &mut self,
         ordinary: &O,

@@ -8,18 +8,11 @@ ghost use Rattle.tariff.specs.Posted.{posting_high, under_fair, keeps_under};
 
 use crate::answer::Answer;
 use crate::day_rule::DayRule;
-use crate::published::{HUNDREDTHS, Maxima, part_of};
+use crate::published::{HUNDREDTHS, Maxima};
 use crate::question::{Figures, LAST_DAY, Question};
 
 /// Most that can be posted, in hundredths of a percent: all of capacity.
 pub const MAX_POSTING: u16 = HUNDREDTHS;
-
-/// A day's posted maxima in hundredths of a percent of capacity.
-#[derive(Clone, Copy)]
-pub(crate) struct Posting {
-    max_injection: u16,
-    max_withdrawal: u16,
-}
 
 /// Why nothing was posted.
 #[derive(Clone, Copy, PartialEq, Eq, Debug)]
@@ -27,10 +20,10 @@ pub enum PostingError {
     OutsideLimits,
 }
 
-/// A posting, or none, for each of thirty-one day numbers.
+/// A posting, or none, for each of thirty-one day numbers: maxima in hundredths of a percent of capacity.
 #[derive(Clone, Copy)]
 pub(crate) struct Postings {
-    table: [Option<Posting>; 31],
+    table: [Option<Maxima<u16>>; 31],
 }
 
 impl Postings {
@@ -40,18 +33,18 @@ impl Postings {
         Postings { table: [None; 31] }
     }
 
-    fn on(&self, day: u8) -> Option<Posting>
+    fn on(&self, day: u8) -> Option<Maxima<u16>>
         requires { (1 ≤ day) × (day ≤ 31) }
         ensures { result ≡ posting_on day self.now.table }
     {
-        self.table[day as usize - 1]
+        self.table[usize::from(day) - 1]
     }
 
-    fn set(&mut self, day: u8, posting: Posting)
+    fn set(&mut self, day: u8, posting: Maxima<u16>)
         requires { (1 ≤ day) × (day ≤ 31) }
         ensures { self.new.table ≡ slice_set self.old.table (day - 1) (Some posting) }
     {
-        self.table[day as usize - 1] = Some(posting);
+        self.table[usize::from(day) - 1] = Some(posting);
     }
 }
 
@@ -108,9 +101,9 @@ impl<R> PostingLayer<R> {
         if !postable {
             return Err(PostingError::OutsideLimits);
         }
-        let posting = Posting {
-            max_injection,
-            max_withdrawal,
+        let posting = Maxima {
+            injection: max_injection,
+            withdrawal: max_withdrawal,
         };
         self.postings.set(day, posting);
         Ok(())
@@ -135,10 +128,7 @@ impl<R: DayRule> DayRule for PostingLayer<R> {
         let Some(posting) = self.postings.on(f.day) else {
             return self.rule.answer(question);
         };
-        let maxima = Maxima {
-            injection: part_of::<HUNDREDTHS>(f.capacity, posting.max_injection),
-            withdrawal: part_of::<HUNDREDTHS>(f.capacity, posting.max_withdrawal),
-        };
+        let maxima = posting.of(f.capacity);
         let posted = question.with_maxima(maxima);
         self.rule.answer(&posted)
     }

@@ -1,7 +1,7 @@
 //! The published daily maxima and month-end bands.
 ghost use Rattle.std.specs.Prelude.{◌≡◌, ◌-◌, ◌*◌, ◌/◌, ◌<◌, ◌≤◌, true};
 ghost use Rattle.tariff.specs.Each.{each};
-ghost use Rattle.tariff.specs.Published.{daily_maxima, month_end_bands, maxima_bounded, band_bounded, maxima_of, band_of};
+ghost use Rattle.tariff.specs.Published.{daily_maxima, month_end_bands, maxima_bounded, band_bounded, share, maxima_of, band_of};
 
 use crate::calendar::Month;
 
@@ -151,6 +151,21 @@ fn month_end_bands() -> &'static [Band<u16>; 12]
     &MONTH_END_BANDS
 }
 
+impl Maxima<u16> {
+    /// The therms that these shares of a capacity come to.
+    pub(crate) fn of(&self, capacity: u32) -> Maxima<u32>
+        requires { (self.now.injection ≤ 10000) × (self.now.withdrawal ≤ 10000) }
+        ensures injection { result.injection ≡ share capacity self.now.injection }
+        ensures withdrawal { result.withdrawal ≡ share capacity self.now.withdrawal }
+        ensures within { (result.injection ≤ capacity) × (result.withdrawal ≤ capacity) }
+    {
+        Maxima {
+            injection: part_of::<HUNDREDTHS>(capacity, self.injection),
+            withdrawal: part_of::<HUNDREDTHS>(capacity, self.withdrawal),
+        }
+    }
+}
+
 impl Month {
     /// The month's place in a table of twelve rows.
     fn place(&self) -> usize
@@ -165,11 +180,7 @@ impl Month {
         ensures value { result ≡ maxima_of self.now.number capacity }
         ensures within { (result.injection ≤ capacity) × (result.withdrawal ≤ capacity) }
     {
-        let row = daily_maxima()[self.place()];
-        Maxima {
-            injection: part_of::<HUNDREDTHS>(capacity, row.injection),
-            withdrawal: part_of::<HUNDREDTHS>(capacity, row.withdrawal),
-        }
+        daily_maxima()[self.place()].of(capacity)
     }
 
     /// The month's band of storage at its end, for an account of that capacity.

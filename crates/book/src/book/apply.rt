@@ -18,6 +18,7 @@ use tariff::day_rule::DayRule;
 
 impl<'a> Book<'a> {
     /// An Unopened, empty book over lent memory, whatever that held.
+    // The four kinds of memory stay apart here, and the two rules at `apply`: the face of the product keeps its signatures.
     pub fn new(
         accounts: &'a mut [Account],
         lines: &'a mut [Line],

@@ -22,8 +22,8 @@ impl Limited for DeliveryRequest {
 
 impl DeliveryRequest {
     /// The delivery that, after loss, covers the use and what storage can take.
-    // The share of capacity is worked out here: the tariff hands shares out only as a posted day's maxima. `as` widens where `From` would:
-    // the proof reads it at once.
+    // The share of capacity is worked out here: the tariff hands shares out only as a month's or a posted day's maxima.
+    // `as` widens here: with `u64::from` in its place the proof did not close.
     pub(crate) fn filling_delivery(&self, loss: u16, account: &Account) -> u32
         requires request { request_within self.now ≡ true }
         requires loss { loss ≤ 2000 }

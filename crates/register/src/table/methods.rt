@@ -8,6 +8,7 @@ use super::{Register, Untaken};
 use crate::keyed::Keyed;
 use crate::shelf::Shelf;
 
+// Four of these hand on to the shelf: one that lent its shelf out for change could lose the order of its keys.
 impl<'a, T: Keyed + Copy> Register<'a, T> {
     /// An empty register over lent memory, whatever that held.
     pub fn new(items: &'a mut [T]) -> Self

@@ -10,6 +10,7 @@ use register::shelf::Shelf;
 use register::table::Register;
 
 impl<'a> Tables<'a> {
+    // The four kinds of memory come apart, as the book is lent them.
     pub fn new(
         accounts: &'a mut [Account],
         lines: &'a mut [Line],

@@ -35,7 +35,7 @@ use tariff::settling::GasDay;
 pub(crate) const MAX_ROWS: usize = 1_000_000;
 
 /// A price that is known to be within its limit.
-// A conversion by a function: `From` could not ask for the limit, and `TryFrom` would be unwrapped in three places.
+// A conversion by a function: `From` could not ask for the limit, and `TryFrom` would be unwrapped in four places.
 fn price_of(hundredths: u32) -> Price
     requires { is_price hundredths ≡ true }
     ensures { result.hundredths ≡ hundredths }
