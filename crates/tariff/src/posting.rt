@@ -14,16 +14,22 @@ use crate::question::{Figures, LAST_DAY, Question};
 /// Most that can be posted, in hundredths of a percent: all of capacity.
 pub const MAX_POSTING: u16 = HUNDREDTHS;
 
+/// A day's posted maxima, in hundredths of a percent of capacity.
+#[derive(Clone, Copy)]
+pub(crate) struct Posting {
+    maxima: Maxima<u16>,
+}
+
 /// Why nothing was posted.
 #[derive(Clone, Copy, PartialEq, Eq, Debug)]
 pub enum PostingError {
     OutsideLimits,
 }
 
-/// A posting, or none, for each of thirty-one day numbers: maxima in hundredths of a percent of capacity.
+/// A posting, or none, for each of thirty-one day numbers.
 #[derive(Clone, Copy)]
 pub(crate) struct Postings {
-    table: [Option<Maxima<u16>>; 31],
+    table: [Option<Posting>; 31],
 }
 
 impl Postings {
@@ -33,14 +39,14 @@ impl Postings {
         Postings { table: [None; 31] }
     }
 
-    fn on(&self, day: u8) -> Option<Maxima<u16>>
+    fn on(&self, day: u8) -> Option<Posting>
         requires { (1 ≤ day) × (day ≤ 31) }
         ensures { result ≡ posting_on day self.now.table }
     {
         self.table[usize::from(day) - 1]
     }
 
-    fn set(&mut self, day: u8, posting: Maxima<u16>)
+    fn set(&mut self, day: u8, posting: Posting)
         requires { (1 ≤ day) × (day ≤ 31) }
         ensures { self.new.table ≡ slice_set self.old.table (day - 1) (Some posting) }
     {
@@ -101,10 +107,11 @@ impl<R> PostingLayer<R> {
         if !postable {
             return Err(PostingError::OutsideLimits);
         }
-        let posting = Maxima {
+        let maxima = Maxima {
             injection: max_injection,
             withdrawal: max_withdrawal,
         };
+        let posting = Posting { maxima };
         self.postings.set(day, posting);
         Ok(())
     }
@@ -128,7 +135,7 @@ impl<R: DayRule> DayRule for PostingLayer<R> {
         let Some(posting) = self.postings.on(f.day) else {
             return self.rule.answer(question);
         };
-        let maxima = posting.of(f.capacity);
+        let maxima = posting.maxima.of(f.capacity);
         let posted = question.with_maxima(maxima);
         self.rule.answer(&posted)
     }
