@@ -1,11 +1,12 @@
 -- An account's lines among lines that are sorted by account.
 use Rattle.std.proofs.Common.{◌≡◌, ◌≢◌, ℕ, zero, suc, ◌+◌, ◌*◌, ◌<◌, ◌≤◌, true, false, eqb, leb, List, [], ◌∷◌, length, get_or, take, drop, sym, refl, ap, ◌∙◌, subst, suc-add, arith}
-use Rattle.std.specs.List.{AllByRecursion, filter, sum_by}
+use Rattle.std.specs.List.{AllByRecursion, filter, prefix_len, sum_by}
 use Rattle.std.specs.List.Sorted.{IsNonDecreasingBy, IsPartitionPoint}
-use Rattle.std.proofs.lemmas.Bool.{cond-true, cond-false, cond_both, leb-true, leb-false, ne_eqb}
+use Rattle.std.proofs.lemmas.Bool.{cond-true, cond-false, cond_both, leb-true, leb-false, lt-leb, ne_eqb}
 use Rattle.std.proofs.lemmas.Bool.Decides.{nat_tests}
 use Rattle.std.proofs.lemmas.List.{drop_more, get_or-drop, get_or-take, length-drop, length-take-le, take-append-drop}
-use Rattle.std.proofs.lemmas.List.Sums.{sum_by-cons}
+use Rattle.std.proofs.lemmas.List.Folds.{length-prefix_len}
+use Rattle.std.proofs.lemmas.List.Sums.{prefix_len-le-length, prefix_len_passes, prefix_len_stops, sum_by-cons}
 use Rattle.tariff.specs.Each.{each}
 use Rattle.register.specs.Keys.{rising}
 use Rattle.register.proofs.Rising.{never_falls}
@@ -48,6 +49,23 @@ by_account ls rise within i j d le lt =
     let low : line_key (get_or ls i d) ≡ (get_or ls i d).account * 16 + (get_or ls i d).pipeline = refl in
     let high : line_key (get_or ls j d) ≡ (get_or ls j d).account * 16 + (get_or ls j d).pipeline = refl in
     grind (arith, nat_tests)
+
+-- as many as are passed one after another part the lines at the first of a later account
+module _ (n k : ℕ) (ls : List Line) (passed : k ≡ length (take (prefix_len (λ l. leb l.account n) ls) ls)) where
+  first_later : k ≡ prefix_len (λ l. leb l.account n) ls
+  first_later = passed ∙ length-prefix_len (λ l. leb l.account n) ls
+
+  pub passed_within : k ≤ length ls
+  passed_within = rw first_later (prefix_len-le-length (λ l. leb l.account n) ls)
+
+  pub parted_at : rising line_key ls ≡ true → each line_within ls ≡ true
+      → IsPartitionPoint (λ l. leb l.account n ≡ true) (λ l. leb l.account n ≡ false) ls k
+  parted_at rise within =
+      ((λ i d low high. prefix_len_passes (λ l. leb l.account n) ls i d (omega (arith, first_later)))
+      , λ i d low high.
+      let stops = leb-false _ _ (prefix_len_stops (λ l. leb l.account n) ls d (omega (arith, first_later))) in
+      let order = by_account ls rise within (prefix_len (λ l. leb l.account n) ls) i d (omega (arith, first_later)) high in
+      lt-leb _ _ (omega (arith, stops, order)))
 
 -- lines parted at the first of a later account
 module _ (n k : ℕ) (ls : List Line) (within : k ≤ length ls) (parted : IsPartitionPoint (λ l. leb l.account n ≡ true) (λ l. leb l.account n ≡ false) ls k) where

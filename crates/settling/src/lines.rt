@@ -51,7 +51,12 @@ impl<'l> Ahead<'l> {
         ensures therms { result ≡ standing (of_account number) self.old.lines.now }
         ensures later { (m : ℕ) → number < m → standing (of_account m) self.new.lines.now ≡ standing (of_account m) self.old.lines.now }
     {
-        let passed = self.lines.partition_point(|line| line.account <= number);
+        // Counted one after another, not by halves: over all accounts each line is passed once, whatever the lines ahead.
+        let passed = self
+            .lines
+            .iter()
+            .take_while(|line| line.account <= number)
+            .count();
         let (mine, later) = self.lines.split_at(passed);
         self.lines = later;
         therms_of(mine, number)

@@ -2,11 +2,12 @@
 use denote.Param.Members.{Mut}
 use denote.Ref.{Bor}
 use mathlib.Core.List.{reverse-cons}
-use Rattle.std.proofs.Common.{◌≡◌, ℕ, ◌+◌, ◌-◌, ◌<◌, Bool, true, false, cond, ◌||◌, eqb, List, [], ◌∷◌, ◌++◌, reverse, length, get_or, take, drop, Some, Option, sym, refl, ap, ap₂, ◌∙◌, subst, add-one, arith}
+use Rattle.std.proofs.Common.{◌≡◌, ℕ, ◌+◌, ◌-◌, ◌<◌, Bool, true, false, cond, ◌||◌, eqb, List, [], ◌∷◌, ◌++◌, map, reverse, length, get_or, take, drop, Some, Option, sym, refl, ap, ap₂, ◌∙◌, subst, add-one, arith}
 use Rattle.std.specs.declared.ops.RangeInclusive.{RangeInclusive}
 use Rattle.std.specs.Fn.{CalledAt}
 use Rattle.std.specs.Iterator.{FindsItem}
 use Rattle.std.specs.List.{find, list_any, range_with_len}
+use Rattle.std.specs.Option.{option_map}
 use Rattle.std.specs.Range.{range_inclusive_start, range_inclusive_end, range_inclusive_exhausted, range_inclusive_len}
 use Rattle.std.proofs.iter.runs.Sources.{nat_range_inclusive_steps}
 use Rattle.std.proofs.lemmas.Bool.Decides.{nat_tests}
@@ -24,6 +25,15 @@ use Rattle.ledger.specs.Table.{first_repeated, among, pipelines}
 pub found_by : {S A F : Type 0} {steps : S → Option A → S → Type 0} {g : Mut F (Bor A × Unit {0}) Bool} {s : S} {all : List A} (test : A → Bool) (u : S) (f : F) (r : Option A)
     → FindsItem steps g s f r u → YieldsList steps (λ x. x) s all → ((x : A) (b : Bool) (q : F) → CalledAt g f x b q → (q ≡ f) × (b ≡ test x)) → r ≡ find test all
 found_by test u f r ran yields calls = sym (option_map_id r) ∙ find_from_yields_List test u f r ran yields calls
+
+-- the first figure that a test picks is that of the first whose figure it picks
+pub find_figure : {X Y : Type 0} (figure : X → Y) (test : Y → Bool) (xs : List X) → find test (map figure xs) ≡ option_map figure (find (λ x. test (figure x)) xs)
+find_figure figure test [] = refl
+find_figure {X} {Y} figure test (x ∷ xs) = either (test (figure x)) _ _ (find_figure figure test xs)
+  where
+    either : (b : Bool) (o : Option Y) (p : Option X) → o ≡ option_map figure p → cond b (Some (figure x)) o ≡ option_map figure (cond b (Some x) p)
+    either true o p e = refl
+    either false o p e = e
 
 -- what `a..=b` has left
 abbrev many : ℕ → ℕ → Bool → ℕ

@@ -14,10 +14,10 @@ use register::table::Register;
 pub fn first_unknown(accounts: &Register<Account>, named: &[Line]) -> Option<u32>
     ensures { result ≡ find (λ n. not (known n (held accounts.now.shelf))) (map (λ l. l.account) named.now) }
 {
-    named
+    let line = named
         .iter()
-        .map(|line| line.account)
-        .find(|account| accounts.look(u64::from(*account)).is_none())
+        .find(|line| accounts.look(u64::from(line.account)).is_none())?;
+    Some(line.account)
 }
 
 /// The supplier of an account, or 0 where it is not known.
@@ -37,8 +37,8 @@ pub fn first_of_other_supplier(
 ) -> Option<Line>
     ensures { result ≡ find (λ l. not (supplier_of l.account (held accounts.now.shelf) == supplier)) named.now }
 {
-    named
+    let line = named
         .iter()
-        .copied()
-        .find(|line| supplier_of(accounts, line.account) != supplier)
+        .find(|line| supplier_of(accounts, line.account) != supplier)?;
+    Some(*line)
 }

@@ -12,7 +12,8 @@ pub fn first_repeated(named: &[Line]) -> Option<Line>
     ensures { result ≡ first_repeated [] named.now }
 {
     for (i, line) in named.iter().enumerate() {
-        if named[..i].iter().any(|earlier| earlier.key() == line.key()) {
+        let key = line.key();
+        if named[..i].iter().any(|earlier| earlier.key() == key) {
             return Some(*line);
         }
     }
