@@ -60,12 +60,13 @@ module _ (n k : ℕ) (ls : List Line) (passed : k ≡ length (take (prefix_len (
 
   pub parted_at : rising line_key ls ≡ true → each line_within ls ≡ true
       → IsPartitionPoint (λ l. leb l.account n ≡ true) (λ l. leb l.account n ≡ false) ls k
-  parted_at rise within =
-      ((λ i d low high. prefix_len_passes (λ l. leb l.account n) ls i d (omega (arith, first_later)))
-      , λ i d low high.
-      let stops = leb-false _ _ (prefix_len_stops (λ l. leb l.account n) ls d (omega (arith, first_later))) in
-      let order = by_account ls rise within (prefix_len (λ l. leb l.account n) ls) i d (omega (arith, first_later)) high in
-      lt-leb _ _ (omega (arith, stops, order)))
+  parted_at rise within = (
+    (λ i d low high. prefix_len_passes (λ l. leb l.account n) ls i d (omega (arith, first_later))),
+    λ i d low high.
+        let stops = leb-false _ _ (prefix_len_stops (λ l. leb l.account n) ls d (omega (arith, first_later))) in
+        let order = by_account ls rise within (prefix_len (λ l. leb l.account n) ls) i d (omega (arith, first_later)) high in
+        lt-leb _ _ (omega (arith, stops, order)),
+  )
 
 -- lines parted at the first of a later account
 module _ (n k : ℕ) (ls : List Line) (within : k ≤ length ls) (parted : IsPartitionPoint (λ l. leb l.account n ≡ true) (λ l. leb l.account n ≡ false) ls k) where

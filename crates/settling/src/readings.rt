@@ -8,8 +8,6 @@ use ledger::records::Account;
 pub fn first_unread(accounts: &[Account]) -> Option<Account>
     ensures { result ≡ unread accounts.now }
 {
-    accounts
-        .iter()
-        .copied()
-        .find(|account| account.reading.is_none())
+    let account = accounts.iter().find(|account| account.reading.is_none())?;
+    Some(*account)
 }

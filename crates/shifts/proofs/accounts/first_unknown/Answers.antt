@@ -1,4 +1,4 @@
-use Rattle.std.proofs.Common.{ℕ, not, sym, ap, ◌∙◌, rules, tests}
+use Rattle.std.proofs.Common.{ℕ, not, sym, ap, ◌∙◌, rules, tests, arith}
 use Rattle.std.specs.Option.{option_map}
 use Rattle.std.proofs.lemmas.Iterator.{YieldsList-from_slice}
 use Rattle.std.proofs.lemmas.Iterator.Search.{find_from_yields_List}
@@ -18,4 +18,5 @@ pub returns : goal.returns
 returns c =
     let unknown = λ (n : ℕ). not (known n (held c.args.accounts.now.shelf)) in
     let found = find_from_yields_List (λ (l : Line). unknown l.account) _ _ c.find.result c.find.ensures.ran (YieldsList-from_slice c.args.named.now cc) (λ x b q k. search (rules, tests)) in
-    sym (find_figure (λ l. l.account) unknown c.args.named.now ∙ ap (option_map (λ l. l.account)) (sym found ∙ ap (option_map (λ x. x.now)) c.in_ok-line.was))
+    let first = sym (find_figure (λ l. l.account) unknown c.args.named.now ∙ ap (option_map (λ l. l.account)) (sym found ∙ ap (option_map (λ x. x.now)) c.in_ok-line.was)) in
+    grind (arith, first, rules)
