@@ -6,28 +6,41 @@ ghost use Rattle.std.specs.Prelude.{◌≡◌, ◌≤◌, take, length, IfOk, If
 ghost use Rattle.std.specs.Option.{option_map};
 
 use listing::listing;
-use std::alloc::Global;
 use std::io;
 use std::io::Read;
 
 /// Bytes of a feed that are read; what lies past them is as if it were not there.
 const MAX_FEED: usize = 65_536;
 
-/// The first bytes of a source, up to the most that are read.
-fn first_bytes<R: Read + Drop>(heap: Global, source: R) -> io::Result<Vec<u8>>
-    ensures few { IfOk result (λ feed. length feed.items ≤ 65536) }
-    ensures first { IfOk result (λ feed. IfSome (option_map (take 65536) (R.remaining source)) (λ first. feed.items ≡ first)) }
+/// Reads until there are no more places or the source ends, and says how many bytes came.
+fn fill<R: Read>(source: &mut R, places: &mut [u8]) -> io::Result<usize>
+    ensures few { IfOk result (λ n. n ≤ length places.old) }
+    ensures first { IfOk result (λ n. IfSome (option_map (take (length places.old)) (R.remaining source.old)) (λ first. take n places.new ≡ first)) }
 {
-    let mut feed = Vec::new(heap);
-    source.take(MAX_FEED as u64).read_to_end(&mut feed)?;
-    // A source whose bytes are not known beforehand is held to the most here too.
-    feed.truncate(MAX_FEED);
-    Ok(feed)
+    let mut count = 0;
+    while count < places.len() {
+        let got = source.read(&mut places[count..])?;
+        if got == 0 {
+            break;
+        }
+        count += got;
+    }
+    Ok(count)
+}
+
+/// The first bytes of a source, up to the most that are read: how many there are.
+// Into an array and no `Vec`, whose memory might not be had: an empty feed asks for none.
+fn first_bytes<R: Read>(source: &mut R, feed: &mut [u8; MAX_FEED]) -> io::Result<usize>
+    ensures few { IfOk result (λ n. n ≤ 65536) }
+    ensures first { IfOk result (λ n. IfSome (option_map (take 65536) (R.remaining source.old)) (λ first. take n feed.new ≡ first)) }
+{
+    fill(source, feed.as_mut_slice())
 }
 
 fn main(rt: HostRuntime) -> anyhow::Result<()> {
-    let feed = first_bytes(rt.alloc(), rt.stdin())?;
-    let text = listing(rt.alloc(), feed.as_slice())?;
+    let mut feed = [0u8; MAX_FEED];
+    let count = first_bytes(&mut rt.stdin(), &mut feed)?;
+    let text = listing(rt.alloc(), &feed[..count])?;
     rt.print(text.as_str())?;
     Ok(())
 }
