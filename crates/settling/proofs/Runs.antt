@@ -1,12 +1,10 @@
 -- An account's lines among lines that are sorted by account.
-use Rattle.std.proofs.Common.{◌≡◌, ◌≢◌, ℕ, zero, suc, ◌+◌, ◌*◌, ◌<◌, ◌≤◌, true, false, eqb, leb, List, [], ◌∷◌, length, get_or, take, drop, sym, refl, ap, ◌∙◌, subst, suc-add, arith}
-use Rattle.std.specs.List.{AllByRecursion, filter, prefix_len, sum_by}
-use Rattle.std.specs.List.Sorted.{IsNonDecreasingBy, IsPartitionPoint}
-use Rattle.std.proofs.lemmas.Bool.{cond-true, cond-false, cond_both, leb-true, leb-false, lt-leb, ne_eqb}
+use Rattle.std.proofs.Common.{◌≡◌, ◌≢◌, ℕ, zero, suc, ◌+◌, ◌*◌, ◌<◌, true, List, [], ◌∷◌, length, get_or, drop, sym, refl, ap, ◌∙◌, subst, suc-add, arith}
+use Rattle.std.specs.List.{AllByRecursion}
+use Rattle.std.specs.List.Sorted.{IsNonDecreasingBy}
+use Rattle.std.proofs.lemmas.Bool.{cond-false, ne_eqb}
 use Rattle.std.proofs.lemmas.Bool.Decides.{nat_tests}
-use Rattle.std.proofs.lemmas.List.{drop_more, get_or-drop, get_or-take, length-drop, length-take-le, take-append-drop}
-use Rattle.std.proofs.lemmas.List.Folds.{length-prefix_len}
-use Rattle.std.proofs.lemmas.List.Sums.{prefix_len-le-length, prefix_len_passes, prefix_len_stops, sum_by-cons}
+use Rattle.std.proofs.lemmas.List.{drop_more, get_or-drop, length-drop}
 use Rattle.tariff.specs.Each.{each}
 use Rattle.register.specs.Keys.{rising}
 use Rattle.register.proofs.Rising.{never_falls}
@@ -16,7 +14,6 @@ use Rattle.ledger.specs.declared.records.Account.{Account}
 use Rattle.ledger.proofs.Found.{rising_parts}
 use Rattle.ledger.specs.State.{number, line_key, standing, of_account, picked}
 use Rattle.ledger.proofs.Steps.{each_all}
-use Rattle.ledger.proofs.Totals.{added_append}
 use Rattle.std.proofs.ByRecursion.{All-get_or}
 
 -- past a place, all keys are above the one that stands there
@@ -25,19 +22,11 @@ above_past key [] i d r h = absurd (omega arith)
 above_past key (x ∷ xs) zero d r h = (rising_parts key x xs r).0
 above_past key (x ∷ xs) (suc i) d r h = rw (suc-add i 1) (above_past key xs i d (rising_parts key x xs r).1 (omega arith))
 
--- the lines of an account come to the therms of those that are its own
-pub standing_is : (n : ℕ) (ls : List Line) → sum_by (λ l. l.therms) (filter (λ l. eqb l.account n) ls) ≡ standing (of_account n) ls
-standing_is n [] = refl
-standing_is n (l ∷ ls) = cond_both (eqb l.account n) (l ∷ filter (λ k. eqb k.account n) ls) (filter (λ k. eqb k.account n) ls)
-    (λ xs. sum_by (λ k. k.therms) xs ≡ picked (of_account n) l + standing (of_account n) ls)
-    (λ e. sum_by-cons (λ k. k.therms) l (filter (λ k. eqb k.account n) ls) ∙ (let rest = standing_is n ls in let own : picked (of_account n) l ≡ l.therms = cond-true _ _ _ e in omega arith))
-    (λ e. let rest = standing_is n ls in let other : picked (of_account n) l ≡ 0 = cond-false _ _ _ e in omega arith)
-
-none_of : (n : ℕ) (ls : List Line) → ((i : ℕ) (d : Line) → i < length ls → (get_or ls i d).account ≢ n) → standing (of_account n) ls ≡ 0
-none_of n [] h = refl
-none_of n (l ∷ ls) h =
-    let rest = none_of n ls (λ i d lt. h (suc i) d (omega arith)) in
-    let other : picked (of_account n) l ≡ 0 = cond-false _ _ _ (ne_eqb l.account n (h zero l (omega arith))) in
+none_of : (n : ℕ) (ls : List Line) (d : Line) → ((i : ℕ) → i < length ls → (get_or ls i d).account ≢ n) → standing (of_account n) ls ≡ 0
+none_of n [] d h = refl
+none_of n (l ∷ ls) d h =
+    let rest = none_of n ls d (λ i lt. h (suc i) (omega arith)) in
+    let other : picked (of_account n) l ≡ 0 = cond-false _ _ _ (ne_eqb l.account n (h zero (omega arith))) in
     omega arith
 
 -- lines by rising key are in the order of their accounts
@@ -50,48 +39,14 @@ by_account ls rise within i j d le lt =
     let high : line_key (get_or ls j d) ≡ (get_or ls j d).account * 16 + (get_or ls j d).pipeline = refl in
     grind (arith, nat_tests)
 
--- as many as are passed one after another part the lines at the first of a later account
-module _ (n k : ℕ) (ls : List Line) (passed : k ≡ length (take (prefix_len (λ l. leb l.account n) ls) ls)) where
-  first_later : k ≡ prefix_len (λ l. leb l.account n) ls
-  first_later = passed ∙ length-prefix_len (λ l. leb l.account n) ls
-
-  pub passed_within : k ≤ length ls
-  passed_within = rw first_later (prefix_len-le-length (λ l. leb l.account n) ls)
-
-  pub parted_at : rising line_key ls ≡ true → each line_within ls ≡ true
-      → IsPartitionPoint (λ l. leb l.account n ≡ true) (λ l. leb l.account n ≡ false) ls k
-  parted_at rise within = (
-    (λ i d low high. prefix_len_passes (λ l. leb l.account n) ls i d (omega (arith, first_later))),
-    λ i d low high.
-        let stops = leb-false _ _ (prefix_len_stops (λ l. leb l.account n) ls d (omega (arith, first_later))) in
-        let order = by_account ls rise within (prefix_len (λ l. leb l.account n) ls) i d (omega (arith, first_later)) high in
-        lt-leb _ _ (omega (arith, stops, order)),
-  )
-
--- lines parted at the first of a later account
-module _ (n k : ℕ) (ls : List Line) (within : k ≤ length ls) (parted : IsPartitionPoint (λ l. leb l.account n ≡ true) (λ l. leb l.account n ≡ false) ls k) where
-  halves : (m : ℕ) → standing (of_account m) ls ≡ standing (of_account m) (take k ls) + standing (of_account m) (drop k ls)
-  halves m = ap (standing (of_account m)) (sym (take-append-drop k ls)) ∙ added_append (picked (of_account m)) (take k ls) (drop k ls)
-
-  -- all of the account's lines are before
-  pub all_before : standing (of_account n) (take k ls) ≡ standing (of_account n) ls
-  all_before =
-      let whole = halves n in
-      let none = none_of n (drop k ls) (λ i d lt e.
-      let there : k + i < length ls = omega (arith, length-drop k ls) in
-      let later = leb-false _ _ (parted.1 (k + i) d (omega arith) there) in
-      omega (arith, ap (λ l. l.account) (get_or-drop k ls i d))) in
-      omega arith
-
-  -- and those of every later account are behind
-  pub all_behind : (m : ℕ) → n < m → standing (of_account m) (drop k ls) ≡ standing (of_account m) ls
-  all_behind m later =
-      let whole = halves m in
-      let long = length-take-le k ls within in
-      let none = none_of m (take k ls) (λ i d lt e.
-      let low = leb-true _ _ (parted.0 i d (omega arith) (omega arith)) in
-      omega (arith, ap (λ l. l.account) (get_or-take k ls i d (omega arith)))) in
-      omega arith
+-- from a line of a later account on, none is the account's
+pub none_past : (n : ℕ) (ls : List Line) (i : ℕ) (d : Line) → rising line_key ls ≡ true → each line_within ls ≡ true
+    → i < length ls → n < (get_or ls i d).account → standing (of_account n) (drop i ls) ≡ 0
+none_past n ls i d rise within lt later = none_of n (drop i ls) d (λ j below same.
+    let there : i + j < length ls = omega (arith, length-drop i ls) in
+    let order = by_account ls rise within i (i + j) d (omega arith) there in
+    let behind = ap (λ l. l.account) (get_or-drop i ls j d) in
+    omega (arith, order, behind))
 
 -- the lines of these accounts are all among those that are left
 abbrev pub Left : List Line → List Line → List Account → Type 0

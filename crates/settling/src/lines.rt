@@ -1,5 +1,5 @@
 //! The lines, which stand sorted by account, cut off account by account: what an account's lines come to. It never looks back.
-ghost use Rattle.std.specs.Prelude.{◌≡◌, ℕ, ◌^◌, ◌<◌, ◌≤◌, true, [], ◌==◌, filter, sum_by};
+ghost use Rattle.std.specs.Prelude.{◌≡◌, ℕ, ◌<◌, ◌≤◌, true, []};
 ghost use Rattle.tariff.specs.Each.{each};
 ghost use Rattle.register.specs.Keys.{rising};
 ghost use Rattle.register.specs.Views.{held};
@@ -8,18 +8,6 @@ ghost use Rattle.ledger.specs.State.{line_key, standing, of_account};
 
 use calls::fields::Line;
 use register::table::Register;
-
-/// The therms of those lines that are the account's.
-fn therms_of(lines: &[Line], number: u32) -> u32
-    requires { sum_by (λ l. l.therms) (filter (λ l. l.account == number) lines.now) < 2 ^ 32 }
-    ensures { result ≡ sum_by (λ l. l.therms) (filter (λ l. l.account == number) lines.now) }
-{
-    lines
-        .iter()
-        .filter(|line| line.account == number)
-        .map(|line| line.therms)
-        .sum()
-}
 
 /// The lines that are still ahead, sorted by account.
 #[derive(Clone, Copy)]
@@ -51,14 +39,19 @@ impl<'l> Ahead<'l> {
         ensures therms { result ≡ standing (of_account number) self.old.lines.now }
         ensures later { (m : ℕ) → number < m → standing (of_account m) self.new.lines.now ≡ standing (of_account m) self.old.lines.now }
     {
-        // Counted one after another, not by halves: over all accounts each line is passed once, whatever the lines ahead.
-        let passed = self
-            .lines
-            .iter()
-            .take_while(|line| line.account <= number)
-            .count();
-        let (mine, later) = self.lines.split_at(passed);
-        self.lines = later;
-        therms_of(mine, number)
+        let mut therms = 0;
+        let mut passed = 0;
+        // One after another, not by halves: over all accounts each line is passed once, whatever the lines ahead.
+        for line in self.lines {
+            if line.account > number {
+                break;
+            }
+            if line.account == number {
+                therms += line.therms;
+            }
+            passed += 1;
+        }
+        self.lines = &self.lines[passed..];
+        therms
     }
 }
