@@ -1,4 +1,4 @@
-//! A month's close of all accounts. It takes prices and month as they are handed in; lines play no part, and readings stay.
+//! A month's close of all accounts. It takes prices, month and day as they are handed in; lines play no part, and readings stay.
 ghost use Rattle.std.specs.Prelude.{◌≡◌, ◌+◌, ◌≤◌, true, refl, ◌++◌, map, length};
 ghost use Rattle.tariff.specs.Each.{each};
 ghost use Rattle.register.specs.Views.{held, room};
@@ -16,7 +16,7 @@ use tariff::calendar::{Date, Month};
 use tariff::closing::close_month;
 use tariff::prices::MonthPrices;
 
-/// The close of a month, account by account.
+/// The close of a month, account by account; every row bears the one date.
 #[derive(Clone, Copy)]
 pub(crate) struct MonthEnd<'m> {
     month: &'m Month,
@@ -42,7 +42,7 @@ impl<'m> Walk for MonthEnd<'m> {
     }
 }
 
-/// Closes every account in its place, and adds a row for each, in their order.
+/// Closes every account in its place, and adds a row for each, in their order. Rows are dated by that day of the month, past its end or not.
 pub fn close_all(
     month: &Month,
     day: u8,
