@@ -1,8 +1,9 @@
 -- What a gas day is settled by, and a month closed by, read off the tariff's own values.
+use Rattle.std.specs.Prelude.{ℕ}
 use Rattle.tariff.specs.declared.calendar.Month.{Month}
 use Rattle.tariff.specs.declared.prices.MonthPrices.{MonthPrices}
 use Rattle.tariff.specs.declared.settling.GasDay.{GasDay}
-use Rattle.tariff.specs.Calendar.{date, days_in}
+use Rattle.tariff.specs.Calendar.{date}
 use Rattle.ledger.specs.Terms.{DayTerms, CloseTerms}
 
 abbrev pub terms_of_day : GasDay → DayTerms
@@ -14,9 +15,9 @@ terms_of_day d = record {
   market = d.prices.market.hundredths;
 }
 
-abbrev pub terms_of_close : Month → MonthPrices → CloseTerms
-terms_of_close m p = record {
-  last_day = date m.year m.number (days_in m.year m.number);
+abbrev pub terms_of_close : Month → ℕ → MonthPrices → CloseTerms
+terms_of_close m day p = record {
+  last_day = date m.year m.number day;
   gas_cost = p.gas_cost.hundredths;
   average_index = p.average_index.hundredths;
 }

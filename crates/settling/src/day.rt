@@ -1,9 +1,10 @@
 //! A gas day of all accounts, under any day rule. It takes prices, loss and date as they are handed in, and never looks them up.
 ghost use Rattle.std.specs.Prelude.{◌≡◌, ◌+◌, ◌≤◌, true, refl, ◌&&◌, ◌++◌, map, length, nat_le};
 ghost use Rattle.tariff.specs.Each.{each};
+ghost use Rattle.register.specs.Keys.{rising};
 ghost use Rattle.register.specs.Views.{held, room};
 ghost use Rattle.calls.specs.Limits.{line_within};
-ghost use Rattle.ledger.specs.State.{standing, of_account};
+ghost use Rattle.ledger.specs.State.{line_key, standing, of_account};
 ghost use Rattle.ledger.specs.Table.{has_reading};
 ghost use Rattle.ledger.specs.Terms.{figures_on, account_after_day, row_after_day};
 ghost use Rattle.ledger.specs.Safety.{account_within};
@@ -54,17 +55,18 @@ impl<'r, 'd, R: DayRule> Walk for Settlement<'r, 'd, R> {
 pub fn settle_all<R: DayRule>(
     rule: &R,
     day: &GasDay,
-    lines: &Register<Line>,
+    lines: &[Line],
     accounts: &mut Register<Account>,
     rows: &mut Shelf<Row>,
 )
     requires accounts_within { each account_within (held accounts.old.shelf) ≡ true }
     requires read { each has_reading (held accounts.old.shelf) ≡ true }
-    requires deliverable { each (λ a. nat_le (standing (of_account a.number) (held lines.now.shelf)) 8000000) (held accounts.old.shelf) ≡ true }
-    requires lines_within { each line_within (held lines.now.shelf) ≡ true }
+    requires deliverable { each (λ a. nat_le (standing (of_account a.number) lines.now) 8000000) (held accounts.old.shelf) ≡ true }
+    requires lines_rise { rising line_key lines.now ≡ true }
+    requires lines_within { each line_within lines.now ≡ true }
     requires space { length (held rows.old) + length (held accounts.old.shelf) ≤ room rows.old }
-    ensures accounts { held accounts.new.shelf ≡ map (λ a. account_after_day (R.DayRule.answers rule.now) (terms_of_day day.now) (standing (of_account a.number) (held lines.now.shelf)) a) (held accounts.old.shelf) }
-    ensures rows { held rows.new ≡ held rows.old ++ map (λ a. row_after_day (R.DayRule.answers rule.now) (terms_of_day day.now) (standing (of_account a.number) (held lines.now.shelf)) a) (held accounts.old.shelf) }
+    ensures accounts { held accounts.new.shelf ≡ map (λ a. account_after_day (R.DayRule.answers rule.now) (terms_of_day day.now) (standing (of_account a.number) lines.now) a) (held accounts.old.shelf) }
+    ensures rows { held rows.new ≡ held rows.old ++ map (λ a. row_after_day (R.DayRule.answers rule.now) (terms_of_day day.now) (standing (of_account a.number) lines.now) a) (held accounts.old.shelf) }
     ensures accounts_sized { room accounts.new.shelf ≡ room accounts.old.shelf }
     ensures rows_sized { room rows.new ≡ room rows.old }
 {

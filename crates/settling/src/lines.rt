@@ -2,12 +2,10 @@
 ghost use Rattle.std.specs.Prelude.{◌≡◌, ℕ, ◌<◌, ◌≤◌, true, []};
 ghost use Rattle.tariff.specs.Each.{each};
 ghost use Rattle.register.specs.Keys.{rising};
-ghost use Rattle.register.specs.Views.{held};
 ghost use Rattle.calls.specs.Limits.{line_within};
 ghost use Rattle.ledger.specs.State.{line_key, standing, of_account};
 
 use calls::fields::Line;
-use register::table::Register;
 
 /// The lines that are still ahead, sorted by account.
 #[derive(Clone, Copy)]
@@ -18,12 +16,13 @@ pub(crate) struct Ahead<'l> {
 }
 
 impl<'l> Ahead<'l> {
-    /// All lines of a register.
-    pub(crate) fn over(lines: &'l Register<Line>) -> Ahead<'l>
-        requires { each line_within (held lines.now.shelf) ≡ true }
-        ensures { result.lines.now ≡ held lines.now.shelf }
+    /// All of these lines.
+    pub(crate) fn over(lines: &'l [Line]) -> Ahead<'l>
+        requires rise { rising line_key lines.now ≡ true }
+        requires within { each line_within lines.now ≡ true }
+        ensures { result.lines.now ≡ lines.now }
     {
-        Ahead { lines: lines.all() }
+        Ahead { lines }
     }
 
     /// No line.

@@ -4,12 +4,12 @@
 ghost use Rattle.std.specs.Prelude.{◌≡◌, ◌^◌, ◌<◌, ◌≤◌, true, sum_by};
 ghost use Rattle.tariff.specs.Each.{each};
 ghost use Rattle.tariff.specs.Prices.{average};
-ghost use Rattle.register.specs.Views.{held};
+ghost use Rattle.register.specs.Keys.{rising};
+ghost use Rattle.ledger.specs.State.{price_day};
 ghost use Rattle.ledger.specs.Ready.{price_of_month};
 ghost use Rattle.ledger.specs.Rows.{index_total};
 
 use calls::fields::PriceQuote;
-use register::table::Register;
 use tariff::prices::Price;
 
 /// The index prices, added up.
@@ -21,11 +21,12 @@ fn total_of(prices: &[PriceQuote]) -> u32
 }
 
 /// The average of the index prices over the days.
-pub fn average_index(prices: &Register<PriceQuote>, days: u8) -> Price
-    requires of_month { each (price_of_month days) (held prices.now.shelf) ≡ true }
+pub fn average_index(prices: &[PriceQuote], days: u8) -> Price
+    requires rises { rising price_day prices.now ≡ true }
+    requires of_month { each (price_of_month days) prices.now ≡ true }
     requires first { 1 ≤ days }
     requires last { days ≤ 31 }
-    ensures { result.hundredths ≡ average (index_total (held prices.now.shelf)) days }
+    ensures { result.hundredths ≡ average (index_total prices.now) days }
 {
-    Price::average(total_of(prices.all()), days).unwrap()
+    Price::average(total_of(prices), days).unwrap()
 }

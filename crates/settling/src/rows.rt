@@ -1,10 +1,9 @@
 //! Rows written out: the account's own columns, and what came of its day or close. Nothing is worked out here.
 ghost use Rattle.std.specs.Prelude.{◌≡◌};
-ghost use Rattle.tariff.specs.Calendar.{date, days_in};
 ghost use Rattle.ledger.specs.Terms.{row_on, row_of_close};
 
 use ledger::records::{Account, Row, RowKind};
-use tariff::calendar::{Date, Month};
+use tariff::calendar::Date;
 use tariff::closing::MonthClose;
 use tariff::question::Figures;
 use tariff::settling::SettledDay;
@@ -37,12 +36,12 @@ pub(crate) fn settled_row(
 }
 
 /// The row of a close; a close has no day's columns.
-pub(crate) fn closed_row(month: &Month, account: &Account, close: &MonthClose) -> Row
-    ensures { result ≡ row_of_close (date month.now.year month.now.number (days_in month.now.year month.now.number)) account.now close.now }
+pub(crate) fn closed_row(date: Date, account: &Account, close: &MonthClose) -> Row
+    ensures { result ≡ row_of_close date account.now close.now }
 {
     Row {
         kind: RowKind::Close,
-        date: month.last_day(),
+        date,
         account: account.number,
         supplier: account.supplier,
         delivered: 0,

@@ -1,5 +1,5 @@
 -- What the day begun is settled by is within its limits, and what a month is closed by is what its values say.
-use Rattle.std.proofs.Common.{◌≡◌, ◌+◌, true, length, Some, le_refl}
+use Rattle.std.proofs.Common.{◌≡◌, ℕ, ◌+◌, ◌∙◌, ap₂, true, length, Some, le_refl}
 use Rattle.std.proofs.lemmas.Bool.{le-leb}
 use Rattle.calls.specs.declared.fields.PriceQuote.{PriceQuote}
 use Rattle.calls.specs.Limits.{is_price}
@@ -24,10 +24,13 @@ module _ (s : State) (ready : Ready s) where
   today_priced p e = let high = index_high prices_safe (s.settled + 1) (Some p) e in (le-leb _ _ high.0, le-leb _ _ high.1)
 
 -- what the month is closed by, from its own month and prices
-pub closed_by : (s : State) (month : Month) (prices : MonthPrices) → month.year ≡ s.year → month.number ≡ s.month → prices.gas_cost.hundredths ≡ amount s.gas_cost
-    → prices.average_index.hundredths ≡ average (index_total s.prices) (days_of s) → terms_of_close month prices ≡ close_terms s
-closed_by s month prices ey em eg ea = λ i. record {
-  last_day = date (ey i) (em i) (days_in (ey i) (em i));
+pub closed_by : (s : State) (month : Month) (day : ℕ) (prices : MonthPrices) → month.year ≡ s.year → month.number ≡ s.month → day ≡ days_in month.year month.number → prices.gas_cost.hundredths ≡ amount s.gas_cost
+    → prices.average_index.hundredths ≡ average (index_total s.prices) (days_of s) → terms_of_close month day prices ≡ close_terms s
+closed_by s month day prices ey em ed eg ea = λ i. record {
+  last_day = date (ey i) (em i) (last i);
   gas_cost = eg i;
   average_index = ea i;
 }
+  where
+    last : day ≡ days_in s.year s.month
+    last = ed ∙ ap₂ days_in ey em

@@ -110,7 +110,13 @@ impl<'a> Tables<'a> {
         requires space { length (held self.old.rows) + length (held self.old.accounts.shelf) ≤ room self.old.rows }
         ensures { state_of self.new ≡ day_settled_by (R.DayRule.answers rule.now) (state_of self.old) }
     {
-        settle_all(rule, day, &self.lines, &mut self.accounts, &mut self.rows);
+        settle_all(
+            rule,
+            day,
+            self.lines.all(),
+            &mut self.accounts,
+            &mut self.rows,
+        );
         self.lines.clear();
         self.settled += 1;
         self.stage = Stage::Between;
@@ -127,7 +133,7 @@ impl<'a> Tables<'a> {
     {
         MonthPrices {
             gas_cost: price_of(self.gas_cost.unwrap()),
-            average_index: average_index(&self.prices, month.days()),
+            average_index: average_index(self.prices.all(), month.days()),
         }
     }
 
@@ -147,7 +153,13 @@ impl<'a> Tables<'a> {
             return Err(Refusal::NotDue);
         }
         let prices = self.month_prices(&month);
-        close_all(&month, &prices, &mut self.accounts, &mut self.rows);
+        close_all(
+            &month,
+            month.days(),
+            &prices,
+            &mut self.accounts,
+            &mut self.rows,
+        );
         self.stage = Stage::Closed;
         Ok(written)
     }

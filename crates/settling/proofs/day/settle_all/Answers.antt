@@ -11,6 +11,6 @@ use Rattle.settling.proofs.day.settle_all.Goals as goal
 pub walk_all-requires-clause-ready : goal.walk_all-requires-clause-ready
 walk_all-requires-clause-ready g c =
     let accounts = held c.args.accounts.now.shelf in
-    let few : Account → Bool = λ a. leb (standing (of_account a.number) (held c.args.lines.now.shelf)) 8000000 in
+    let few : Account → Bool = λ a. leb (standing (of_account a.number) c.args.lines.now) 8000000 in
     subst (λ ls. each (λ a. leb (standing (of_account a.number) ls) 8000000 && account_within a && has_reading a) accounts ≡ true) (sym c.over.ensures)
     (each_both (λ a. few a && account_within a) has_reading accounts (each_both few account_within accounts c.requires.deliverable c.requires.accounts_within) c.requires.read)
