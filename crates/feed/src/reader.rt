@@ -50,7 +50,9 @@ pub fn count_records(feed: &[u8]) -> Result<usize, Fault>
 {
     let mut count = 0;
     for record in Records::new(feed) {
-        record?;
+        if let Err(fault) = record {
+            return Err(fault);
+        }
         count += 1;
     }
     Ok(count)
