@@ -5,7 +5,6 @@ ghost use Rattle.feed.specs.Fields.{line_at, lines_of, padded};
 use crate::numbers::be32;
 use calls::fields::Line;
 use calls::limits::BLANK;
-use std::array;
 
 /// The line that the first nine bytes say.
 pub(crate) fn read_line(bytes: &[u8]) -> Line
@@ -25,6 +24,9 @@ pub(crate) fn read_lines(bytes: &[u8], count: u8) -> [Line; 200]
     ensures { result ≡ padded count (lines_of count bytes.now) }
 {
     let (nines, _) = bytes.as_chunks::<9>();
-    let named = &nines[..usize::from(count)];
-    array::from_fn(|i| named.get(i).map_or(BLANK, |nine| read_line(nine)))
+    let mut lines = [BLANK; 200];
+    for (i, nine) in nines[..usize::from(count)].iter().enumerate() {
+        lines[i] = read_line(nine);
+    }
+    lines
 }

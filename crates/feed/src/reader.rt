@@ -21,6 +21,7 @@ fn read_kind<K: Kind>(rest: &[u8]) -> Result<(Call, usize), FeedRefusal>
 }
 
 /// The feed's first record, and the bytes that it takes, at least two.
+#[inline(always)]
 pub fn read_record(feed: &[u8]) -> Result<(Call, usize), FeedRefusal>
     ensures value { result ≡ first_record feed.now }
     ensures bound { IfOk result (λ p. (2 ≤ p.1) × (p.1 ≤ length feed.now)) }
@@ -50,7 +51,9 @@ pub fn count_records(feed: &[u8]) -> Result<usize, Fault>
 {
     let mut count = 0;
     for record in Records::new(feed) {
-        record?;
+        if let Err(fault) = record {
+            return Err(fault);
+        }
         count += 1;
     }
     Ok(count)

@@ -42,6 +42,7 @@ impl Iterator for Records<'_> {
 
     ghost remaining = { λ records. at_most (length records.rest.now) };
 
+    #[inline(always)]
     fn next(&mut self) -> Option<Result<Call, Fault>> {
         if self.rest.is_empty() {
             // The feed is over, or a fault has ended it.
