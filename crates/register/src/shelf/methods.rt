@@ -93,7 +93,22 @@ impl<'a, T: Keyed + Copy> Shelf<'a, T> {
         requires rises { rising T.Keyed.key (held self.now) ≡ true }
         ensures { Sought T.Keyed.key key (held self.now) result }
     {
-        self.all().binary_search_by_key(&key, |item| item.key())
+        let items = self.all();
+        let mut low = 0;
+        let mut high = items.len();
+        while low < high {
+            let mid = low + (high - low) / 2;
+            let here = items[mid].key();
+            if here == key {
+                return Ok(mid);
+            }
+            if here < key {
+                low = mid + 1;
+            } else {
+                high = mid;
+            }
+        }
+        Err(low)
     }
 
     /// The record with this key.
