@@ -1,8 +1,8 @@
 -- Places in a list of records, and whether one more is taken.
 use Rattle.std.specs.Prelude.{◌≡◌, ℕ, ◌<◌, ◌≤◌, Bool, true, false, List, length, take, drop, Ok, Err, Result, slice_index_or}
 use Rattle.std.specs.List.{AllByRecursion}
-use Rattle.register.specs.declared.table.Untaken.{Untaken}
-use Rattle.register.specs.declared.table.Untaken.TheVariants.{Full}
+use Rattle.register.specs.declared.shelf.Untaken.{Untaken}
+use Rattle.register.specs.declared.shelf.Untaken.TheVariants.{Full}
 
 -- where the key stands, or else the place before which all keys are lower and from which on all are higher
 abbrev pub Sought : {X : Type 0} → (X → ℕ) → ℕ → List X → Result ℕ ℕ → Type 0

@@ -11,3 +11,9 @@ pub struct Shelf<'a, T> {
     count: usize,
     ghost within: { count ≤ length items.now },
 }
+
+/// Why a shelf takes no record.
+#[derive(Clone, Copy, PartialEq, Eq, Debug)]
+pub enum Untaken {
+    Full,
+}

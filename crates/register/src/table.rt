@@ -5,6 +5,7 @@ ghost use Rattle.register.specs.Views.{held};
 
 use crate::keyed::Keyed;
 use crate::shelf::Shelf;
+pub use crate::shelf::Untaken;
 
 pub(crate) mod methods;
 
@@ -13,10 +14,4 @@ pub(crate) mod methods;
 pub struct Register<'a, T: Keyed> {
     shelf: Shelf<'a, T>,
     ghost rises: { rising T.Keyed.key (held shelf) ≡ true },
-}
-
-/// Why a register takes no record.
-#[derive(Clone, Copy, PartialEq, Eq, Debug)]
-pub enum Untaken {
-    Full,
 }

@@ -1,9 +1,12 @@
 //! What a shelf does. That its room stays as it was speaks of before and after, and so stands in the clauses of each call that writes.
-ghost use Rattle.std.specs.Prelude.{◌≡◌, ◌+◌, ◌<◌, ◌≤◌, [], ◌∷◌, ◌++◌, length, nat_le, slice_index_or, slice_set};
+ghost use Rattle.std.specs.Prelude.{◌≡◌, ◌+◌, ◌<◌, ◌≤◌, true, [], ◌∷◌, ◌++◌, length, if◌then◌else◌, nat_le, slice_index_or, slice_set};
 ghost use Rattle.std.specs.List.{insert};
+ghost use Rattle.register.specs.Keys.{at, put, fits, rising};
+ghost use Rattle.register.specs.Places.{Sought, taken_if};
 ghost use Rattle.register.specs.Views.{held, room};
 
-use super::Shelf;
+use super::{Shelf, Untaken};
+use crate::keyed::Keyed;
 
 impl<'a, T: Copy> Shelf<'a, T> {
     /// An empty shelf over lent memory, whatever that held.
@@ -80,5 +83,56 @@ impl<'a, T: Copy> Shelf<'a, T> {
     {
         self.append(item);
         self.items[before..self.count].rotate_right(1);
+    }
+}
+
+// Each of these asks that the keys rise, and `set` leaves them so: the type does not hold it, for records are put anywhere on a shelf.
+impl<'a, T: Keyed + Copy> Shelf<'a, T> {
+    /// Where the key stands, or else where it would go.
+    fn place_of(&self, key: u64) -> Result<usize, usize>
+        requires rises { rising T.Keyed.key (held self.now) ≡ true }
+        ensures { Sought T.Keyed.key key (held self.now) result }
+    {
+        let items = self.all();
+        let mut low = 0;
+        let mut high = items.len();
+        while low < high {
+            let mid = low + (high - low) / 2;
+            let here = items[mid].key();
+            if here == key {
+                return Ok(mid);
+            }
+            if here < key {
+                low = mid + 1;
+            } else {
+                high = mid;
+            }
+        }
+        Err(low)
+    }
+
+    /// The record with this key.
+    pub fn look(&self, key: u64) -> Option<T>
+        requires rises { rising T.Keyed.key (held self.now) ≡ true }
+        ensures { result ≡ at T.Keyed.key key (held self.now) }
+    {
+        let place = self.place_of(key).ok()?;
+        Some(self.get(place))
+    }
+
+    /// Puts a record over the one with its key, or between those before and after it, where there is room for one more.
+    pub fn set(&mut self, item: T) -> Result<(), Untaken>
+        requires rises { rising T.Keyed.key (held self.old) ≡ true }
+        ensures answer { result ≡ taken_if (fits T.Keyed.key (room self.old) (held self.old) item) }
+        ensures after { held self.new ≡ (if fits T.Keyed.key (room self.old) (held self.old) item then put T.Keyed.key item (held self.old) else held self.old) }
+        ensures sized { room self.new ≡ room self.old }
+        ensures rises { rising T.Keyed.key (held self.new) ≡ true }
+    {
+        match self.place_of(item.key()) {
+            Ok(place) => self.replace(place, item),
+            Err(_) if !self.has_room(1) => return Err(Untaken::Full),
+            Err(place) => self.insert(place, item),
+        }
+        Ok(())
     }
 }

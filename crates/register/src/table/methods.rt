@@ -1,14 +1,14 @@
 //! What a register does.
 ghost use Rattle.std.specs.Prelude.{◌≡◌, ◌+◌, ◌<◌, [], length, if◌then◌else◌, nat_le, slice_index_or, slice_set};
 ghost use Rattle.register.specs.Keys.{at, put, fits};
-ghost use Rattle.register.specs.Places.{Sought, taken_if};
+ghost use Rattle.register.specs.Places.{taken_if};
 ghost use Rattle.register.specs.Views.{held, room};
 
 use super::{Register, Untaken};
 use crate::keyed::Keyed;
 use crate::shelf::Shelf;
 
-// Four of these hand on to the shelf: one that lent its shelf out for change could lose the order of its keys.
+// All of these hand on to the shelf: one that lent its shelf out for change could lose the order of its keys.
 impl<'a, T: Keyed + Copy> Register<'a, T> {
     /// An empty register over lent memory, whatever that held.
     pub fn new(items: &'a mut [T]) -> Self
@@ -41,19 +41,11 @@ impl<'a, T: Keyed + Copy> Register<'a, T> {
         self.shelf.clear();
     }
 
-    /// Where the key stands, or else where it would go.
-    fn place_of(&self, key: u64) -> Result<usize, usize>
-        ensures { Sought T.Keyed.key key (held self.now.shelf) result }
-    {
-        self.all().binary_search_by_key(&key, |item| item.key())
-    }
-
     /// The record with this key.
     pub fn look(&self, key: u64) -> Option<T>
         ensures { result ≡ at T.Keyed.key key (held self.now.shelf) }
     {
-        let place = self.place_of(key).ok()?;
-        Some(self.shelf.get(place))
+        self.shelf.look(key)
     }
 
     /// Puts a record in the place of one with its key.
@@ -72,11 +64,6 @@ impl<'a, T: Keyed + Copy> Register<'a, T> {
         ensures after { held self.new.shelf ≡ (if fits T.Keyed.key (room self.old.shelf) (held self.old.shelf) item then put T.Keyed.key item (held self.old.shelf) else held self.old.shelf) }
         ensures sized { room self.new.shelf ≡ room self.old.shelf }
     {
-        match self.place_of(item.key()) {
-            Ok(place) => self.shelf.replace(place, item),
-            Err(_) if !self.has_room(1) => return Err(Untaken::Full),
-            Err(place) => self.shelf.insert(place, item),
-        }
-        Ok(())
+        self.shelf.set(item)
     }
 }
