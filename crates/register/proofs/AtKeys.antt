@@ -81,19 +81,19 @@ module _ {X : Type 0} (key : X → ℕ) where
   pub fits_missing : (k room i : ℕ) (x : X) (xs : List X) → k ≡ key x → Sought key k xs (Err i) → fits key room xs x ≡ ltb (length xs) room
   fits_missing k room i x xs e s = ap (λ o. is_some o || ltb (length xs) room) (ap (λ n. at key n xs) (sym e) ∙ at_missing k xs i s.1 s.2)
 
-  pub put_sought : (k i : ℕ) (x : X) (xs : List X) → k ≡ key x → Sought key k xs (Err i) → put key x xs ≡ insert xs i x
-  put_sought k i x xs e s = let t = subst (λ n. Sought key n xs (Err i)) e s in put_missing x xs i t.0 t.1 t.2
+  pub put_sought : (k i n : ℕ) (x : X) (xs : List X) → k ≡ key x → Sought key k xs (Err i) → n ≡ i → put key x xs ≡ insert xs n x
+  put_sought k i n x xs e s there = let t = subst (λ m. Sought key m xs (Err i)) e s in put_missing x xs i t.0 t.1 t.2 ∙ ap (λ m. insert xs m x) (sym there)
 
   pub fits_found : (room : ℕ) (x : X) (xs : List X) (m : ℕ) → rising key xs ≡ true → m < length xs → key (get_or xs m x) ≡ key x → fits key room xs x ≡ true
   fits_found room x xs m r lt e = ap (λ o. is_some o || ltb (length xs) room) (ap (λ n. at key n xs) (sym e) ∙ at_found xs m x r lt)
 
   -- what a search finds is the record with that key, if there is one
-  pub looked : (k : ℕ) (xs : List X) (r : Result ℕ ℕ) (i : ℕ) (x : X) → rising key xs ≡ true → Sought key k xs r → result_ok r ≡ Some i → x ≡ get_or xs i x → Some x ≡ at key k xs
-  looked k xs (Ok j) i x up s e is =
-      let same : j ≡ i = cc in
+  pub looked : (k : ℕ) (xs : List X) (r : Result ℕ ℕ) (i n : ℕ) (x : X) → rising key xs ≡ true → Sought key k xs r → result_ok r ≡ Some i → n ≡ i → x ≡ get_or xs n x → Some x ≡ at key k xs
+  looked k xs (Ok j) i n x up s e one is =
+      let same : j ≡ n = cc in
       let there : x ≡ get_or xs j x = is ∙ ap (λ n. get_or xs n x) (sym same) in
       ap (λ y. Some y) there ∙ sym (at_found xs j x up s.0) ∙ ap (λ n. at key n xs) (s.1 x)
-  looked k xs (Err j) i x up s e is = absurd (cc)
+  looked k xs (Err j) i n x up s e one is = absurd (cc)
 
   pub looked_in_vain : (k : ℕ) (xs : List X) (r : Result ℕ ℕ) → Sought key k xs r → result_ok r ≡ None → at key k xs ≡ None
   looked_in_vain k xs (Ok j) s e = absurd (cc)

@@ -17,9 +17,9 @@ all_from P (x ∷ xs) (suc m) h = all_from P xs m (λ i d low lt. h (suc i) d (o
 
 module _ {X : Type 0} (key : X → ℕ) (k : ℕ) (xs : List X) (m : ℕ) (up : rising key xs ≡ true) (lt : m < length xs) where
   -- up to a key below k, all are below k
-  pub lower : ((d : X) → key (get_or xs m d) < k) → AllByRecursion (λ x. key x < k) (take (m + 1) xs)
-  lower h = all_before (λ x. key x < k) xs (m + 1) (omega arith) (λ i d below. omega (arith, never_falls key xs up i m d (omega arith) lt, h d))
+  pub lower : ((d : X) → key (get_or xs m d) < k) → (n : ℕ) → n ≤ m + 1 → AllByRecursion (λ x. key x < k) (take n xs)
+  lower h n le = all_before (λ x. key x < k) xs n (omega arith) (λ i d below. omega (arith, never_falls key xs up i m d (omega arith) lt, h d))
 
   -- from a key above k on, all are above k
-  pub higher : ((d : X) → k < key (get_or xs m d)) → AllByRecursion (λ x. k < key x) (drop m xs)
-  higher h = all_from (λ x. k < key x) xs m (λ i d above within. omega (arith, never_falls key xs up m i d above within, h d))
+  pub higher : ((d : X) → k < key (get_or xs m d)) → (n : ℕ) → m ≤ n → AllByRecursion (λ x. k < key x) (drop n xs)
+  higher h n le = all_from (λ x. k < key x) xs n (λ i d above within. omega (arith, never_falls key xs up m i d (omega arith) within, h d))

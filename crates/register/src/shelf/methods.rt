@@ -89,6 +89,7 @@ impl<'a, T: Copy> Shelf<'a, T> {
 // Each of these asks that the keys rise, and `set` leaves them so: the type does not hold it, for records are put anywhere on a shelf.
 impl<'a, T: Keyed + Copy> Shelf<'a, T> {
     /// Where the key stands, or else where it would go.
+    // By halves, in a loop that ends at the key; the library's searches go on to the last half.
     fn place_of(&self, key: u64) -> Result<usize, usize>
         requires rises { rising T.Keyed.key (held self.now) ≡ true }
         ensures { Sought T.Keyed.key key (held self.now) result }

@@ -1,4 +1,4 @@
-use Rattle.std.proofs.Common.{sym, ◌∙◌}
+use Rattle.std.proofs.Common.{sym, ◌∙◌, arith}
 use Rattle.register.specs.Views.{held}
 use Rattle.register.proofs.AtKeys.{looked, looked_in_vain}
 use Rattle.register.proofs.shelf.Shelf.look.Goals as goal
@@ -9,4 +9,4 @@ returns-in_err-place g c =
 
 pub returns : goal.returns
 returns g c =
-    looked g.T.Keyed.key c.args.key (held c.args.self.now) c.place_of.result c.in_ok-place.place c.get.result c.requires.rises c.place_of.ensures (sym c.ok.ensures.value ∙ c.in_ok-place.was) c.get.ensures
+    looked g.T.Keyed.key c.args.key (held c.args.self.now) c.place_of.result c.in_ok-place.place _ c.get.result c.requires.rises c.place_of.ensures (sym c.ok.ensures.value ∙ c.in_ok-place.was) (omega arith) c.get.ensures

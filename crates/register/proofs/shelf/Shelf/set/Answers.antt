@@ -47,8 +47,7 @@ pub returns-in-Err-2-clause-rises : goal.returns-in-Err-2-clause-rises
 returns-in-Err-2-clause-rises g c =
     let key = g.T.Keyed.key in
     let xs = held c.args.self.now in
-    let put_is = put_sought key c.key.result c.in-Err.field-0 c.args.item xs c.key.ensures c.in-Err.ensures in
-    ap (rising key) (c.insert.ensures.after ∙ sym put_is) ∙ rising_put key c.args.item xs c.requires.rises
+    ap (rising key) (c.insert.ensures.after ∙ sym (put_sought key c.key.result c.in-Err.field-0 _ c.args.item xs c.key.ensures c.in-Err.ensures (omega arith))) ∙ rising_put key c.args.item xs c.requires.rises
 
 pub returns-in-Err-2-clause-answer : goal.returns-in-Err-2-clause-answer
 returns-in-Err-2-clause-answer g c =
@@ -65,5 +64,4 @@ returns-in-Err-2-clause-after g c =
     let n = room c.args.self.now in
     let free = leb-true (length xs + 1) n (sym c.if-not-has_room.ensures) in
     let fit = fits_missing key c.key.result n c.in-Err.field-0 c.args.item xs c.key.ensures c.in-Err.ensures ∙ lt-ltb (length xs) n (omega arith) in
-    let put_is = put_sought key c.key.result c.in-Err.field-0 c.args.item xs c.key.ensures c.in-Err.ensures in
-    c.insert.ensures.after ∙ sym put_is ∙ sym (ap (λ b. if b then put key c.args.item xs else xs) fit)
+    c.insert.ensures.after ∙ sym (put_sought key c.key.result c.in-Err.field-0 _ c.args.item xs c.key.ensures c.in-Err.ensures (omega arith)) ∙ sym (ap (λ b. if b then put key c.args.item xs else xs) fit)
