@@ -38,9 +38,9 @@ fn first_bytes<R: Read>(source: &mut R, feed: &mut [u8; MAX_FEED]) -> io::Result
 }
 
 fn main(rt: HostRuntime) -> anyhow::Result<()> {
-    let mut feed = [0u8; MAX_FEED];
-    let count = first_bytes(&mut rt.stdin(), &mut feed)?;
-    let text = listing(rt.alloc(), &feed[..count])?;
+    let mut buffer = [0u8; MAX_FEED];
+    let count = first_bytes(&mut rt.stdin(), &mut buffer)?;
+    let text = listing(rt.alloc(), &buffer[..count])?;
     rt.print(text.as_str())?;
     Ok(())
 }
