@@ -51,9 +51,7 @@ pub fn count_records(feed: &[u8]) -> Result<usize, Fault>
 {
     let mut count = 0;
     for record in Records::new(feed) {
-        if let Err(fault) = record {
-            return Err(fault);
-        }
+        record?;
         count += 1;
     }
     Ok(count)

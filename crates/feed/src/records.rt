@@ -48,21 +48,21 @@ impl Iterator for Records<'_> {
             // The feed is over, or a fault has ended it.
             return None;
         }
-        match read_record(self.rest) {
+        Some(match read_record(self.rest) {
             Ok((call, length)) => {
                 self.rest = &self.rest[length..];
                 self.offset += length;
                 self.ordinal += 1;
-                Some(Ok(call))
+                Ok(call)
             }
             Err(cause) => {
                 self.rest = &[];
-                Some(Err(Fault {
+                Err(Fault {
                     ordinal: self.ordinal,
                     offset: self.offset,
                     layer: Layer::Feed(cause),
-                }))
+                })
             }
-        }
+        })
     }
 }

@@ -79,8 +79,8 @@ pub fn listing(heap: Global, feed: &[u8]) -> Result<String, AllocError>
 {
     let mut out = String::new(heap);
     for record in Records::new(feed) {
-        match &record {
-            Ok(call) => writeln!(out, "{}", CallFigures(call))?,
+        match record {
+            Ok(call) => writeln!(out, "{}", CallFigures(&call))?,
             Err(fault) => {
                 writeln!(out, "{fault}")?;
                 return Ok(out);

@@ -1,4 +1,4 @@
-use Rattle.std.proofs.Common.{ℕ, ◌+◌, [], ◌∷◌, ◌++◌, Some, None, Ok, Result, sym, refl, ap, ◌∙◌, subst, arith, rules}
+use Rattle.std.proofs.Common.{◌≡◌, ℕ, ◌+◌, [], ◌∷◌, ◌++◌, Some, None, Ok, Err, Result, sym, refl, ap, ◌∙◌, subst, arith, rules}
 use Rattle.std.proofs.lemmas.List.{length-append}
 use Rattle.calls.specs.declared.fields.Call.{Call}
 use Rattle.feed.specs.declared.fault.Fault.{Fault}
@@ -16,24 +16,26 @@ loop-record-init c =
       ([], refl, nothing_behind c.args.feed.now it (search rules) (search rules) (search rules)),
     )
 
-pub returns-in-Err : goal.returns-in-Err
-returns-in-Err c =
+pub returns-in_err-record : goal.returns-in_err-record
+returns-in_err-record c =
     let s = c.loop-record.record-iterator in
     let t = c.next.new.self in
-    let f = c.in-Err.fault in
+    let f = c.in_err-record.field-0.0 in
     let done = c.loop-record.invariant.1 in
     let gives : Result Call Fault → Type 0 = λ r. Gives s (Some r) t in
-    let g : StopsAt s f t = subst gives c.in-Err.is c.in-Some.ensures.steps in
-    counted c.args.feed.now done.0 (Some f) (stopped c.args.feed.now done.0 s t done.2 f g)
+    let g : StopsAt s f t = subst gives c.in_err-record.was c.in-Some.ensures.steps in
+    let e : c.from_residual.result ≡ Err f = search rules in
+    let as-counted : Result ℕ Fault → Type 0 = λ r. Counted c.args.feed.now r in
+    subst as-counted (sym e) (counted c.args.feed.now done.0 (Some f) (stopped c.args.feed.now done.0 s t done.2 f g))
 
 pub loop-record-preserved : goal.loop-record-preserved
 loop-record-preserved c =
     let s = c.loop-record.record-iterator in
     let t = c.next.new.self in
-    let call = c.in_default.field-0 in
+    let call = c.in_ok-record.field-0 in
     let done = c.loop-record.invariant.1 in
     let gives : Result Call Fault → Type 0 = λ r. Gives s (Some r) t in
-    let g : TakesCall s call t = subst gives c.in_default.is c.in-Some.ensures.steps in (
+    let g : TakesCall s call t = subst gives c.in_ok-record.was c.in-Some.ensures.steps in (
       ap (λ n. n + 1) c.loop-record.invariant.0 ∙ sym g.ordinal,
       (
         done.0 ++ (call ∷ []),
