@@ -8,7 +8,8 @@ ghost use Rattle.std.specs.Prelude.{◌≡◌, ◌++◌, IfOk, Some, string_byte
 ghost use Rattle.listing.specs.Listing.{line_figures, lines_figures, mark_of, figures_of, figures_text, Listed};
 
 use calls::fields::{Call, Line};
-use feed::records::Records;
+use feed::fault::{Fault, Layer};
+use feed::reader::read_record;
 use std::alloc::{AllocError, Global};
 use std::fmt;
 
@@ -78,10 +79,21 @@ pub fn listing(heap: Global, feed: &[u8]) -> Result<String, AllocError>
     ensures { IfOk result (λ text. Listed feed.now (string_bytes text)) }
 {
     let mut out = String::new(heap);
-    for record in Records::new(feed) {
-        match record {
-            Ok(call) => writeln!(out, "{}", CallFigures(&call))?,
-            Err(fault) => {
+    let mut offset = 0;
+    let mut count = 0;
+    while offset < feed.len() {
+        match read_record(&feed[offset..]) {
+            Ok((call, length)) => {
+                writeln!(out, "{}", CallFigures(&call))?;
+                offset += length;
+                count += 1;
+            }
+            Err(cause) => {
+                let fault = Fault {
+                    ordinal: count + 1,
+                    offset,
+                    layer: Layer::Feed(cause),
+                };
                 writeln!(out, "{fault}")?;
                 return Ok(out);
             }
