@@ -79,6 +79,7 @@ pub fn listing(heap: Global, feed: &[u8]) -> Result<String, AllocError>
     ensures { IfOk result (λ text. Listed feed.now (string_bytes text)) }
 {
     let mut out = String::new(heap);
+    // Read record by record and not through `Records`: a call is 2.4 KB, and would be moved once more for each.
     let mut offset = 0;
     let mut count = 0;
     while offset < feed.len() {
